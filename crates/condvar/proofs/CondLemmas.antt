@@ -1,4 +1,5 @@
--- What a poll of a lock with conditions leaves, and why whoever was woken out of a wait stands on no waiting list.
+-- What a poll of a lock with conditions leaves, and why a thread that was woken from a wait is in
+-- no wait list.
 use Rattle.std.proofs.Common.{arith}
 use Rattle.std.proofs.Common.{◌≡◌, ◌<◌, ◌≤◌, Bool, true, false, ◌&&◌, List, length, slice_set, Option, Some, None, is_some, if◌then◌else◌, ap, ◌∙◌}
 use Rattle.std.proofs.{Common.arith, lemmas.Option.slice_get_within}
@@ -21,7 +22,7 @@ pub current_small : (homes : List CpuId) (c : CpuId) (moves : _) (own : Threads)
 current_small homes c moves own t legal stands room runs =
     omega (arith, slice_get_within homes t.0 c (current_at homes c moves own legal stands t runs).0, room)
 
--- a thread that runs stands on no waiting list of any lock
+-- a thread that runs is in no wait list of any lock
 pub current_awake : {G B O : Type 0} (monitor_rules : MonitorRules G B O) (opening : LockId
     → Option (QueueBlock (LockState B))) (seen : List (QueueEvent (CvCall G))) (c : CpuId) (own : Threads) (t : Tid)
     → AreMoves (homes_in opening) (moves_in (lock_kernel (cv_rules monitor_rules) opening) seen)
@@ -32,7 +33,7 @@ current_awake monitor_rules opening seen c own t legal stands agree runs lock li
     not_counted t (wait_list_in line (lock_after (cv_rules monitor_rules) (inner opening) lock (buffer_sections seen)))
     (agree lock line t ∙ ap (λ w. one_if (is_at lock line (wait_channel_of w))) (current_at _ c _ own legal stands t runs).1)
 
--- who waits calls its wait alone
+-- a thread that waits makes no call except its wait
 wait_alone : {H G E : Type 0} (meant : H → Parcel → G) (parcel : Parcel) (call : CvCall H) (at : Option BufId) (under_way : Option (SchedCall E)) (b : BufId)
     (t : Tid) (may : Type 0) → MayWait at under_way b (lock_meant (cv_meant meant) call parcel) t may → (calls_wait call && is_some at) ≡ is_some at
 wait_alone meant parcel call at under_way b t may duty = grind arith
@@ -47,7 +48,7 @@ pub wake_kept : (waits now : List (Option BufId)) (woke : Bool) (u : Tid) → no
     → now ≡ waits
 wake_kept waits now woke u same told = same ∙ ap (λ b. if b then slice_set waits u.0 None else waits) told
 
--- what the lock told, with the parcel beside its answer
+-- what the lock returned, with the parcel beside its result
 abbrev pub lock_tells : {B O : Type 0} → (B → Parcel → O) → Parcel → Option (Outcome (QOut (CvOut B))) → Option (Outcome (QOut (CvOut O)))
 lock_tells told parcel answer = told_by (outcome_told (lock_told (cv_told told))) answer parcel
 
@@ -55,7 +56,7 @@ is_wait_told : {B O : Type 0} (told : B → Parcel → O) (parcel : Parcel) (ans
     → is_wait (lock_tells told parcel answer) ≡ is_wait answer
 is_wait_told told parcel answer = grind arith
 
--- so who waits is known from what the lock told
+-- so what the lock returned determines which thread waits
 pub waits_told : {B O : Type 0} (told : B → Parcel → O) (parcel : Parcel) (answer : Option (Outcome (QOut (CvOut B)))) (t : Tid) (b : BufId)
     (waits now : List (Option BufId)) → now ≡ (if is_wait answer then slice_set waits t.0 (Some b) else waits)
     → now ≡ (if is_wait (lock_tells told parcel answer) then slice_set waits t.0 (Some b) else waits)
@@ -67,7 +68,7 @@ pub complete_told : {B O : Type 0} (told : B → Parcel → O) (parcel : Parcel)
     → lock_tells told parcel result ≡ (if is_wait (lock_tells told parcel answer) then None else lock_tells told parcel answer)
 complete_told told parcel answer result same = grind (arith, is_wait_told)
 
--- what the lock's answer leaves
+-- what the lock's result leaves
 pub reported_left : {O : Type 0} (t : Tid) (b : BufId) (waits now : List (Option BufId)) (lock : Locking (CvOut O))
     (answer result : Option (Outcome (QOut (CvOut O)))) → now ≡ (if is_wait answer then slice_set waits t.0 (Some b) else waits)
     → result ≡ (if is_wait answer then None else answer) → waiting_with lock now result ≡ left_waiting t b waits lock answer
@@ -78,7 +79,7 @@ module _ {G B O : Type 0} (monitor_rules : MonitorRules G B O) (k : Kernel (CvCa
   abbrev caller : CvCall G → Tid
   caller call = lock_caller (cv_rules monitor_rules) call
 
-  -- whether the caller waited, as the wake tells
+  -- whether the caller waited, according to the wake
   pub wake_told : {H : Type 0} (meant : H → Parcel → G) (parcel : Parcel) (call : CvCall H) (past : List (QueueEvent (CvCall G))) (woke is : Bool) (u : Tid)
       → MayCallCond monitor_rules k c past own under_way b (lock_meant (cv_meant meant) call parcel)
       → woke ≡ (calls_wait call && is_some (slept_for own.waits u)) → woke ≡ is → u ≡ caller (lock_meant (cv_meant meant) call parcel)
@@ -114,7 +115,7 @@ module _ {G B O : Type 0} (monitor_rules : MonitorRules G B O) (k : Kernel (CvCa
       leaves = reported_left (caller call) b own.waits waits lock answer result same told;
     }
 
--- it follows its plan where the lock's poll follows its own
+-- it follows its plan if the lock's poll follows its own
 pub waits_follow : {G B O : Type 0} (ActsFor : CpuId → Type 0) (table : Table (QueueEdit (CvCall G)) B (QueueAnswer (Outcome (QOut (CvOut O)))))
     (opening : LockId → Option B) (mv : MoveRules (CvCall G) (Outcome (QOut (CvOut O)))) (homes : List CpuId) (c : CpuId) (b : BufId) (call : CvCall G)
     (own : Waiting O) (old new : List (Action (QueueEdit (CvCall G)))) (lock : Locking (CvOut O)) (waits : List (Option BufId))

@@ -1,4 +1,4 @@
--- Which call waits, on which side, and which answer says that its caller waits now.
+-- Which call waits, on which side, and which result says that its caller waits.
 use Rattle.{std.specs.Prelude.{Bool, true, false, List, Option, Some, None}, layer_traits.specs.declared.conditions.CvLeave.TheVariants.{Leave, Wait}}
 use Rattle.layer_traits.specs.declared.{conditions.CvOut.CvOut, locked.{QEdit.TheVariants.{Acquire, Inside, Release}, QOut.{QOut, TheVariants.Acquired}}}
 use Rattle.layer_traits.specs.declared.{locked.{QOut.TheVariants.{Queued, Did, Released}, Side.{Side, TheVariants.Receivers}}, sleeps.Outcome.Outcome}
@@ -19,25 +19,25 @@ calls_wait (Inside e) = false
 calls_wait (Release (Leave t)) = false
 calls_wait (Release (Wait t side)) = true
 
--- whether an inner answer is that of a wait
+-- whether an inner result is that of a wait
 abbrev pub is_waited : {O : Type 0} → CvOut O → Bool
 is_waited (answer.Did out) = false
 is_waited (answer.Signalled side front) = false
 is_waited answer.Left = false
 is_waited (answer.Waited side) = true
 
--- whether a lock's answer is that of a release by which its caller waits
+-- whether a lock's result is that of a release by which its caller waits
 abbrev pub is_waiting : {O : Type 0} → QOut (CvOut O) → Bool
 is_waiting Acquired = false
 is_waiting Queued = false
 is_waiting (Did out) = false
 is_waiting (Released out) = is_waited out
 
--- whether a lock's poll answered so
+-- whether a lock's poll returned such a result
 abbrev pub is_wait : {O : Type 0} → Option (Outcome (QOut (CvOut O))) → Bool
 is_wait None = false
 is_wait (Some outcome) = is_waiting outcome.out
 
--- a CPU's own state: that of its locks, and who waits at which buffer
+-- a CPU's private state: that of its locks, and which thread waits at which buffer
 abbrev pub with_waits : {O : Type 0} → Locking (CvOut O) → List (Option BufId) → Waiting O
 with_waits lock waits = record { lock = lock; waits = waits }

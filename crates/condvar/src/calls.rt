@@ -1,4 +1,4 @@
-//! What a call on a lock with conditions says of itself. No call takes memory or waits.
+//! The thread and the side of a call on a lock with conditions. No function allocates or blocks.
 
 ghost use Rattle.std.specs.Prelude.{◌≡◌};
 ghost use Rattle.layer_traits.specs.{Layers.{Conditions.cv_rules, QLocking.lock_caller}, Blocks.Payloads.{cv_meant, lock_meant}};
@@ -22,8 +22,8 @@ pub fn caller_of<G: Guarded>(call: &QEdit<CvEdit<G::Handed>, CvLeave>, parcel: &
     }
 }
 
-/// The side on which a wait is, with this parcel beside it, which tells nothing of it; `Receivers`
-/// of a call that is no wait.
+/// The side of a wait, with this parcel beside it, on which the side does not depend; `Receivers`
+/// for a call that is no wait.
 #[inline(always)]
 pub fn side_of<G: Guarded>(call: &QEdit<CvEdit<G::Handed>, CvLeave>, parcel: &Parcel) -> Side
     ensures { result ≡ side_in (lock_meant (cv_meant G.meant) call.now parcel.now) }

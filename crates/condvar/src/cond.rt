@@ -1,4 +1,4 @@
-//! Conditions.
+//! Conditions: one CPU's part of the layer.
 
 use crate::calls::{caller_of, side_of};
 use crate::waits::Waits;
@@ -9,7 +9,7 @@ use layer_traits::{
 };
 
 /// One CPU's part of queuing locks with Mesa conditions (Anderson and Dahlin), over a part `Q` of
-/// queuing locks: it keeps of each thread at which buffer it waits.
+/// queuing locks. It keeps for each thread the buffer at which it waits.
 #[derive(Drop)]
 pub struct Cond<Q> {
     lower: Q,

@@ -1,7 +1,8 @@
-//! Mesa conditions over queuing locks: whoever finds that it may not go on gives the lock on and
-//! waits, in one event, and is woken by a signal to the front of a line.
+//! Mesa condition variables (Lampson and Redell 1980) over queuing locks. A thread that may not
+//! continue releases the lock and waits, in one event. A signal to the front of a line (wait queue)
+//! wakes it.
 //!
-//! Thread 3, which owns the lock of buffer 0, gives it on and waits for a message, in one event:
+//! Thread 3, which owns the lock of buffer 0, releases it and waits for a message, in one event:
 //!
 //! ```text
 //! let edit = QEdit::Release(CvLeave::Wait(Tid(3), Side::Receivers));

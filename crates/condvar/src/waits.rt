@@ -1,4 +1,4 @@
-//! Who waits at which buffer. No call takes memory or waits.
+//! Which thread waits at which buffer. No function allocates or blocks.
 
 ghost use Rattle.std.specs.Prelude.{◌≡◌, ◌<◌, ◌&&◌, Some, None, is_some, replicate, slice_set, if◌then◌else◌};
 ghost use Rattle.{event_log.specs.declared.ids.TheConstants.THREADS, layer_traits.specs.Layers.QLockLaw.slept_for, condvar.specs.Waiting.{calls_wait, is_wait}};
@@ -6,16 +6,16 @@ ghost use Rattle.{event_log.specs.declared.ids.TheConstants.THREADS, layer_trait
 use event_log::{BufId, THREADS, Tid};
 use layer_traits::{CvEdit, CvLeave, CvOut, Outcome, QEdit, QOut};
 
-/// Of each thread the buffer at which it waits, from the poll in which it began to wait until its
-/// wait answers.
+/// For each thread the buffer at which it waits, from the poll in which it began to wait until its
+/// wait returns.
 #[derive(Drop)]
 pub struct Waits {
-    /// By thread.
+    /// The buffer of each thread, by its number.
     pub buffers: [Option<BufId>; THREADS],
 }
 
 impl Waits {
-    /// Nobody waits.
+    /// The table in which no thread waits.
     pub fn new() -> Waits
         ensures { result.buffers ≡ replicate THREADS None }
     {
@@ -24,7 +24,7 @@ impl Waits {
         }
     }
 
-    /// Ends the wait of `t`, and tells whether there was one.
+    /// Ends the wait of `t`, and returns whether there was one.
     ///
     /// Requires: the thread is below `THREADS`.
     #[inline(always)]
@@ -41,8 +41,8 @@ impl Waits {
         true
     }
 
-    /// If this call is a wait, ends the wait of `t`, and tells whether there was one. A thread that
-    /// waits calls nothing else, so no other call asks the table.
+    /// If this call is a wait, ends the wait of `t`, and returns whether there was one. Other calls
+    /// do not consult the table, because a thread that waits makes no other call.
     ///
     /// Requires: the thread is below `THREADS`.
     #[inline(always)]
@@ -57,8 +57,8 @@ impl Waits {
         }
     }
 
-    /// Takes what the lock of `buffer` told `t`: the answer of a wait is held back, and the thread
-    /// waits there; each other answer is handed on.
+    /// Takes what the lock of `buffer` returned for `t`. The result of a wait is held back, and the
+    /// thread waits there; any other result is returned.
     ///
     /// Requires: the thread is below `THREADS`.
     #[inline(always)]
@@ -80,7 +80,7 @@ impl Waits {
     }
 }
 
-/// Whether the lock answered that the caller waits now.
+/// Whether the lock's result says that the caller waits.
 #[inline(always)]
 fn has_waited<O>(answer: &Option<Outcome<QOut<CvOut<O>>>>) -> bool
     ensures { result ≡ is_wait answer.now }

@@ -1,4 +1,4 @@
--- Steps of one CPU: polls of its calls, passes, and what they leave beside them.
+-- Steps of one CPU: polls of its calls, passes, and what they leave apart from these.
 pub mod GuestsFollow
 pub mod CpuStates
 pub mod CallSteps

@@ -1,4 +1,4 @@
--- A step of a CPU is one of the step table, and what a system tells is what the table has.
+-- A step of a CPU is one of the step table, and what a system reports is what the table has.
 pub mod TableSystems
 pub mod TableRows
 pub mod TablePolls

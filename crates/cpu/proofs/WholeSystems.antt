@@ -1,4 +1,4 @@
--- What always holds of a system, and what of its calls, its threads and its buffers follows.
+-- The invariant of a system, and what it implies for the system's calls, threads and buffers.
 pub mod OneOrder
 pub mod OnePlaceEach
 pub mod InvariantOverSteps

@@ -4,8 +4,8 @@ use Rattle.{event_log.specs.declared.{entries.Entry.Entry, ids.{CpuId.CpuId, Tid
 use Rattle.{layer_traits.specs.Layers.BufferLaw.{UnderWay, buffering_at_start}, cpu.specs.{declared.guests.Guest.Guest, Guests.new_guest, Claims.listed}}
 use Rattle.{cpu.specs.Cpus.{NamesBelow, guest_at}, boot.specs.Plan.{BootPlan, Task}}
 
--- a CPU's guests at boot: a place for each thread; at the number of each thread at home with it, and there alone, a new guest, whose
--- program names the machine's buffers alone
+-- A CPU's guests at boot: a place for each thread, with a new guest at the numbers of the CPU's
+-- home threads, and at no others. Each program names only the machine's buffers.
 pub record AreGuests (homes : List CpuId) (buffers : ℕ) (number : CpuId) (guests : List (Option Guest)) : Type 0 where
   pub homed : (t : Tid) → home_of homes t ≡ Some number → (g : Guest) × (guest_at guests t.0 ≡ Some g)
   pub only : (t : Tid) (g : Guest) → guest_at guests t.0 ≡ Some g → home_of homes t ≡ Some number
@@ -26,7 +26,7 @@ pub record IsBooted (number : CpuId) (guests : List (Option Guest)) (most : ℕ)
   pub limit_is : limit ≡ most
   pub reserved : most ≤ capacity
 
--- and its part of the layer is as at boot, and fits each machine that is fresh
+-- and its part of the layer is as at boot, and agrees with each machine that is fresh
 pub record IsBootedAs {P M : Type 0} (Fits : P → M → Type 0) (IsFresh : M → CpuId → Type 0)
     (count : M → ℕ) (buffers : ℕ) (homes : List CpuId)
     (k : ℕ) (guests : List (Option Guest)) (most : ℕ) (part : P) (cpu : CpuId) (own : Buffering)
@@ -38,7 +38,7 @@ pub record IsBootedAs {P M : Type 0} (Fits : P → M → Type 0) (IsFresh : M �
   pub own_is : own ≡ buffering_at_start homes (record { 0 = k })
   pub fits : (m : M) → IsFresh m (record { 0 = k }) → count m ≡ buffers → Fits part m
 
--- what CPU c has at the number of a thread: a new guest where it is the thread's home
+-- what CPU c has at the number of a thread: a new guest if c is the thread's home CPU
 abbrev pub guest_for : ℕ → Task → Option Guest
 guest_for c task = if task.home == c then Some (new_guest task.program) else None
 
@@ -50,6 +50,6 @@ guests_for plan c = map (guest_for c) plan.tasks
 abbrev pub tables_for : BootPlan → List (List (Option Guest))
 tables_for plan = listed (guests_for plan) 0 plan.cpus
 
--- the home of each thread
+-- the home CPU of each thread
 abbrev pub homes_for : BootPlan → List CpuId
 homes_for plan = map (λ task. record { 0 = task.home }) plan.tasks

@@ -1,4 +1,4 @@
--- What a system shows, and what holds of it after every list of steps.
+-- What a system shows, and the invariants that hold after every list of steps.
 use Rattle.std.specs.Prelude.{◌≡◌, ◌⊎◌, ℕ, zero, suc, ◌+◌, ◌<◌, ◌≤◌, Bool, true, false, List, [], ◌∷◌, map, length, reverse, Option, Some, None, slice_get}
 use Rattle.std.specs.{Prelude.slice_index_or, List.AllByRecursion}
 use Rattle.event_log.specs.{declared.{entries.Entry.Entry, ids.{BufId.BufId, CpuId.CpuId, Tid.Tid}}, Actions.Action, Messages.Message, Runs.{IsRun, is_closed}}
@@ -10,28 +10,29 @@ use Rattle.{layer_traits.specs.{Threads.Places.{count_in, home_of, where_is}, Vi
 use Rattle.cpu.specs.{declared.guests.Guest.Guest, Guests.{HasComeIn, is_ended}, Table.{Blocks.Name, Setups.Private}, Tables.private, Tower.Composed.named}
 use Rattle.cpu.specs.{Tower.Views.TowerName, Cpus.{IsOfHome, guest_at, of_thread, programs_of}}
 
--- who sleeps at a buffer: for its lock, for a message, for room
+-- the threads that sleep at a buffer: for its lock, for a message, for room
 pub record Waiters : Type 0 where
   pub sleepers : List Tid
   pub receivers : List Tid
   pub senders : List Tid
 
--- one CPU: the threads that it has of its own, the guests of its home threads by their numbers, its trace, oldest first, for how many
--- entries it has room, and whether it has a section under way
+-- one CPU: its scheduling state, the guests of its home threads by their numbers, its trace, oldest
+-- first, the trace's room, and whether a section is under way
 pub record CpuShown : Type 0 where
   pub own : Threads
   pub guests : List (Option Guest)
   pub trace : List Entry
   pub limit : ℕ
   pub busy : Bool
-  -- the same as the step table's private state, where the machine does one action a step
+  -- the same as the step table's private state, if the machine does one action a step
   pub private : Private
 
--- a system as plain data: the capacity of each buffer, the home of each thread, what each buffer holds, whether it is closed, who sleeps at
--- it and who owns its lock, as its last section left it, how threads came to where they stand, newest first, the CPUs, for how many steps
--- there is room, and how many were taken
+-- A system as plain data. For each buffer: its capacity, what it holds, whether it is closed, which
+-- threads sleep at it and which owns its lock, as its last section left them. Then the home CPU of
+-- each thread, the moves of threads between places, newest first, the CPUs, the room for steps, and
+-- how many steps were taken.
 pub record Shown : Type 0 where
-  -- the calls that took effect, of all CPUs, in the order in which they did
+  -- the linearization: the calls that took effect, of all CPUs, in the order in which they did
   pub order : List Entry
   pub caps : List ℕ
   pub homes : List CpuId
@@ -40,13 +41,14 @@ pub record Shown : Type 0 where
   pub waiters : List Waiters
   pub owners : List (Option Tid)
   pub moves : List Step
-  -- the actions of all CPUs, newest first, by the names of the step table, where the machine does one action a step
+  -- the actions of all CPUs, newest first, under the names of the step table, if the machine does
+  -- one action a step
   pub log : List (Action Name)
   pub cpus : List CpuShown
   pub room : ℕ
   pub taken : ℕ
 
--- the values of f at so many numbers from k on
+-- the values of f at so many numbers, from k upwards
 abbrev pub listed : {X : Type 0} → (ℕ → X) → ℕ → ℕ → List X
 listed f k zero = []
 listed f k (suc n) = f k ∷ listed f (k + 1) n
@@ -54,7 +56,7 @@ listed f k (suc n) = f k ∷ listed f (k + 1) n
 abbrev pub buffer_at : ℕ → BufId
 buffer_at b = record { 0 = b }
 
--- who sleeps at a buffer, by the lists of each line
+-- the threads that sleep at a buffer, from its wait lists
 abbrev pub waiters_by : (BufId → WaitList → List Tid) → ℕ → Waiters
 waiters_by lines b = record { sleepers = lines (buffer_at b) Sleepers; receivers = lines (buffer_at b) Receivers; senders = lines (buffer_at b) Senders }
 
@@ -93,9 +95,10 @@ traces_of s = map (λ p. p.trace) s.cpus
 abbrev pub programs_in : Shown → List (List (Option (List Instruction)))
 programs_in s = map (λ p. programs_of p.guests) s.cpus
 
--- the calls that took effect, in the order in which they did, keep every trace, are a run, and end in the buffers' contents: for each buffer,
--- what was put is what was taken, in that order, and then what it holds; a buffer is closed where the order closes it; and each took a step of
--- its own
+-- The calls that took effect, in the order in which they did, keep every trace, are a legal history
+-- of FIFO buffers, and end in the buffers' contents. For each buffer the values put are, in that
+-- order, the values taken, followed by the contents. A buffer is closed exactly if the order closes
+-- it. There are no more calls than steps.
 pub record HasOneOrder (s : Shown) : Type 0 where
   pub keeps : IsInterleaving (traces_of s) s.order
   pub run : IsRun s.caps s.order s.contents
@@ -103,10 +106,11 @@ pub record HasOneOrder (s : Shown) : Type 0 where
   pub closed : (b : ℕ) → b < length s.caps → slice_index_or s.closed b false ≡ is_closed s.order b
   pub few : length s.order ≤ s.taken
 
--- A thread's entries, oldest first, are its program's calls, and it has ended only where its program ends. They lead to just its state:
--- between two calls and in a call without an effect to the state that it has, after the effect to the one in which the call will leave it.
--- So each call that returned has taken effect, and at most one took effect that has not returned. A thread is told as ended only at its
--- program's end.
+-- A thread's entries, oldest first, are its program's calls, and it has ended only at its program's
+-- end. They lead to its exact state. This is its present state, between calls or in a call that has
+-- not taken effect. After the effect it is the state in which the call will leave it. Therefore
+-- each call that returned has taken effect, and at most one took effect that has not returned. A
+-- thread is recorded as ended only at its program's end.
 pub record Keeps (g : Guest) (told_ended : Bool) (entries : List Entry) : Type 0 where
   pub calls : AreProgramsCalls g.program entries
   pub ends : is_ended g.stage ≡ true → HasEnded g.program g.thread
@@ -118,18 +122,19 @@ abbrev pub FollowPrograms : Shown → Type 0
 FollowPrograms s = (c : ℕ) (p : CpuShown) (t : Tid) (g : Guest) → slice_get s.cpus c ≡ Some p → guest_at p.guests t.0 ≡ Some g
     → Keeps g (is_in t p.own.ended) (of_thread t.0 p.trace)
 
--- each entry in a CPU's trace is of that CPU, and of a thread at home with it
+-- each entry in a CPU's trace is of that CPU, and of a thread whose home CPU it is
 abbrev pub StayHome : Shown → Type 0
 StayHome s = (c : ℕ) (p : CpuShown) → slice_get s.cpus c ≡ Some p → AllByRecursion (IsOfHome s.homes (record { 0 = c })) p.trace
 
--- what holds at each moment of a run: the calls so far have one order, and each thread has come by its own to where it stands; so each call
--- that has returned is in the order, and of each thread at most one more, which it is inside
+-- What holds at each moment (state) of a run: the calls so far have one order, and each thread's
+-- entries lead to its state. Therefore each call that has returned is in the order, and of each
+-- thread at most one more, which the thread is inside.
 pub record IsMoment (s : Shown) : Type 0 where
   pub one_order : HasOneOrder s
   pub follow : FollowPrograms s
   pub stay : StayHome s
 
--- how often a thread stands among those that sleep at a buffer
+-- how often a thread is among those that sleep at a buffer
 abbrev pub in_waiters : Tid → Waiters → ℕ
 in_waiters t b = count_in t b.sleepers + count_in t b.receivers + count_in t b.senders
 
@@ -143,26 +148,28 @@ abbrev pub own_in : Option CpuShown → Threads
 own_in None = no_threads
 own_in (Some p) = p.own
 
--- the threads that CPU k has of its own
+-- the scheduling state of CPU k
 abbrev pub own_at : Shown → ℕ → Threads
 own_at s k = own_in (slice_get s.cpus k)
 
--- who sleeps at buffer b
+-- the threads that sleep at buffer b
 abbrev pub waiters_at : Shown → ℕ → Waiters
 waiters_at s b = slice_index_or s.waiters b no_waiters
 
--- each thread stands in exactly one place of the whole system: it runs or is ready with a CPU, is in one CPU's hand, in one pending queue,
--- asleep in one line, or has ended; a number that is no thread's stands nowhere
+-- Each thread is in exactly one place of the whole system. It runs or is ready on a CPU, is in one
+-- CPU's hand, in one pending queue, asleep in one wait list, or has ended. A number that is no
+-- thread's is in no place.
 abbrev pub StandsOnce : Shown → Type 0
 StandsOnce s = (t : Tid) → InOnePlace s.homes (length s.cpus) s.moves (own_at s) (λ u. total (λ b. in_waiters u (waiters_at s b)) (length s.waiters)) t
 
--- a thread's place: one CPU has it so of its own, or it stands in this queue
+-- a thread's place: one CPU's scheduling state gives it, or the moves place the thread in a queue
 abbrev pub IsPlaceOf : Shown → Tid → Place → Type 0
 IsPlaceOf s t place = ((c : ℕ) × (p : CpuShown) × (slice_get s.cpus c ≡ Some p) × IsOwnPlace (record { 0 = c }) p.own t place)
     ⊎ (queue_place (where_is s.homes s.moves t) ≡ Some place)
 
--- what each CPU has of its own agrees with the moves of threads: each of these may follow those before it, each CPU has the threads that
--- they leave with it, and each thread is at home on one of the CPUs
+-- Each CPU's scheduling state agrees with the moves of threads. Each move may follow those before
+-- it, and each CPU has the threads that the moves leave with it. Each thread's home is one of the
+-- CPUs.
 pub record MovesAgree (s : Shown) : Type 0 where
   pub lawful : AreMoves s.homes s.moves
   pub stands : (k : ℕ) (p : CpuShown) → slice_get s.cpus k ≡ Some p → Stands s.homes (record { 0 = k }) s.moves p.own

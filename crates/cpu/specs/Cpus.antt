@@ -1,5 +1,5 @@
--- One CPU over a layer of message calls: what it does next, why it is halted, and what always holds of it. Lists of entries are
--- newest first; a trace is oldest first.
+-- One CPU over a layer of message calls: what it does next, why it is halted, and its invariant.
+-- Lists of entries are newest first; a trace is oldest first.
 use Rattle.std.specs.Prelude.{◌≡◌, ℕ, ◌+◌, ◌≤◌, ◌==◌, Bool, true, false, not, ◌&&◌, List, [], ◌∷◌, ◌++◌, length, map, filter, count_by, reverse, Option, Some}
 use Rattle.std.specs.{Prelude.{None, is_some, option_map, slice_index_or, slice_set, if◌then◌else◌}, List.{AllByRecursion, list_all}}
 use Rattle.event_log.specs.{declared.{entries.Entry.Entry, ids.{CpuId.CpuId, Tid.Tid, TheConstants.THREADS}}, History.AreForeign, Actions.Action}
@@ -30,7 +30,8 @@ abbrev pub passed_by : Option Tid → List (Option Guest) → Pass → List (Opt
 passed_by None guests pass = guests
 passed_by (Some t) guests pass = with_guest guests t.0 (after_pass pass)
 
--- Nobody runs: the hand is emptied first, then the first ready thread runs; where nobody is ready, who is pending is taken.
+-- No thread runs: the hand is emptied first, then the first ready thread runs; if none is ready,
+-- the pending threads are taken.
 abbrev pub chosen_idle : Option Tid → List Tid → Choice
 chosen_idle (Some s) ready = Passes (MakeReady s)
 chosen_idle None [] = Passes Drain
@@ -43,7 +44,7 @@ chosen_todo t Finish = Passes End
 chosen_todo t PassOn = Passes YieldNow
 chosen_todo t Compute = Computes t
 
--- a thread runs: its call goes on, or the hand is emptied first
+-- a thread runs: its call continues, or the hand is emptied first
 abbrev pub chosen_by : Tid → Bool → Option Tid → Todo → Choice
 chosen_by t true hand todo = chosen_todo t todo
 chosen_by t false None todo = chosen_todo t todo
@@ -57,16 +58,16 @@ abbrev pub chosen_at : Option Tid → Option Tid → List Tid → List (Option G
 chosen_at None hand ready guests = chosen_idle hand ready
 chosen_at (Some t) hand ready guests = chosen_for t hand (guest_at guests t.0)
 
--- what a CPU does next that is not halted
+-- what a CPU that is not halted does next
 abbrev pub chosen : Threads → List (Option Guest) → Choice
 chosen own guests = chosen_at own.current own.hand own.ready guests
 
--- a guest stands at this message call
+-- a guest is at this message call
 abbrev pub stands_at_call : Option Guest → Call → Type 0
 stands_at_call None call = ⊥
 stands_at_call (Some g) call = todo_of g ≡ Calls call
 
--- the guest of this thread, if it is one, stands at this call
+-- the guest of this thread, if there is one, is at this call
 abbrev pub IsKept : Option Tid → Call → List (Option Guest) → Type 0
 IsKept by call guests = (t : Tid) → by ≡ Some t → stands_at_call (guest_at guests t.0) call
 
@@ -76,12 +77,12 @@ under_way_of (Polls t c) = Some (Calling t)
 under_way_of (Passes pass) = Some (Passing pass)
 under_way_of (Computes t) = None
 
--- whether this is a guest in a call without an effect
+-- whether this is a guest in a call that has not taken effect
 abbrev pub is_begun_guest : Option Guest → Bool
 is_begun_guest None = false
 is_begun_guest (Some g) = is_begun g.stage
 
--- how many calls have begun and had no effect
+-- how many calls have begun and not taken effect
 abbrev pub begun_count : List (Option Guest) → ℕ
 begun_count guests = count_by is_begun_guest guests
 
@@ -100,19 +101,20 @@ begins_call (Polls t c) guests = begins_at (guest_at guests t.0)
 begins_call (Passes pass) guests = false
 begins_call (Computes t) guests = false
 
--- why a CPU with no section under way is halted: all its threads have ended, or the trace has no room for the call that would begin
+-- why a CPU with no section under way is halted: all its threads have ended, or the trace has no
+-- room for the call that would begin
 abbrev pub cpu_halted_at : Threads → List (Option Guest) → List Entry → ℕ → Option Reason
 cpu_halted_at own guests trace limit =
     if not (is_some own.hand) && list_all is_over guests
     then Some AllEnded
     else (if begins_call (chosen own guests) guests && (length trace + begun_count guests == limit) then Some TraceFull else None)
 
--- a section that is under way goes on
+-- a CPU with a section under way is not halted
 abbrev pub reason_in : Bool → Option Reason → Option Reason
 reason_in true halted = None
 reason_in false halted = halted
 
--- the answer of a step
+-- the result of a step
 abbrev pub step_answer : Option Reason → Step
 step_answer None = Stepped
 step_answer (Some reason) = Halted reason
@@ -137,29 +139,31 @@ AllFollow guests es call_states = (t : Tid) (g : Guest) → guest_at guests t.0 
 abbrev pub AreOver : List (Option Guest) → List Tid → Type 0
 AreOver guests ended = (t : Tid) → is_in t ended ≡ true → (g : Guest) → guest_at guests t.0 ≡ Some g → is_ended g.stage ≡ true
 
--- a program names none but the first so many buffers
+-- a program names only buffers below this number
 abbrev pub NamesBelow : ℕ → List Instruction → Type 0
 NamesBelow buffers program = (line : ℕ) → names_below buffers (instruction_at program line) ≡ true
 
--- an entry is of this CPU, and of a thread at home with it
+-- an entry is of this CPU, and of a thread whose home CPU it is
 pub record IsOfHome (homes : List CpuId) (number : CpuId) (e : Entry) : Type 0 where
   pub cpu : e.cpu.0 ≡ number.0
   pub home : home_of homes e.thread ≡ Some number
 
--- what always holds of a CPU
+-- the invariant of a CPU
 pub record IsCpu (homes : List CpuId) (buffers : ℕ) (seen : List Entry) (own : Threads) (call_states : List CallState) (under_way : Option UnderWay)
     (number : CpuId)
     (guests : List (Option Guest)) (trace : List Entry) (limit capacity : ℕ) : Type 0 where
-  -- its trace has each of its effects once, in their order, and each is of a thread at home with it
+  -- its trace has each of its effects once, in their order, and each is of a home thread
   pub kept : trace ≡ reverse (of_cpu number seen)
   pub stays : AllByRecursion (IsOfHome homes number) (of_cpu number seen)
-  -- each guest agrees with its entries; each thread at home has a guest, whose program names the machine's buffers alone
+  -- each guest agrees with its entries; each home thread has a guest, whose program names only the
+  -- machine's buffers
   pub follow : AllFollow guests (of_cpu number seen) call_states
   pub over : AreOver guests own.ended
   pub homed : (t : Tid) → home_of homes t ≡ Some number → (g : Guest) × (guest_at guests t.0 ≡ Some g)
   pub named : (t : Tid) (g : Guest) → guest_at guests t.0 ≡ Some g → NamesBelow buffers g.program
   pub few : length guests ≤ THREADS
-  -- what is under way is what would be chosen; a call that is under way has begun; a thread in no call has no woken thread in hand
+  -- what is under way is what would be chosen; a call that is under way has begun; a thread in no
+  -- call has no woken thread in hand
   pub agrees : (d : UnderWay) → under_way ≡ Some d → under_way_of (chosen own guests) ≡ Some d
   pub calls : (t : Tid) (g : Guest) → under_way ≡ Some (Calling t) → guest_at guests t.0 ≡ Some g → is_calling g.stage ≡ true
   pub handed : (t : Tid) → own.current ≡ Some t → under_way ≡ None → own.hand ≡ None
@@ -167,7 +171,7 @@ pub record IsCpu (homes : List CpuId) (buffers : ℕ) (seen : List Entry) (own :
   pub room : length trace + begun_count guests ≤ limit
   pub reserved : limit ≤ capacity
 
--- the effects grow by foreign ones and then by at most one of this CPU
+-- the effects grow by those of the environment, then by at most one of this CPU
 pub record SeenGrows (ActsFor : CpuId → Type 0) (cpu : CpuId) (old new : List Entry) : Type 0 where
   pub others : List Entry
   pub mine : List Entry
@@ -176,7 +180,7 @@ pub record SeenGrows (ActsFor : CpuId → Type 0) (cpu : CpuId) (old new : List 
   pub few : length mine ≤ 1
   pub is : new ≡ mine ++ (others ++ old)
 
--- the actions grow by foreign ones and then by this CPU's own
+-- the actions grow by those of the environment, then by this CPU's
 pub record ActsGrow {N : Type 0} (ActsFor : CpuId → Type 0) (cpu : CpuId) (old new : List (Action N)) : Type 0 where
   pub others : List (Action N)
   pub mine : List (Action N)
@@ -184,14 +188,16 @@ pub record ActsGrow {N : Type 0} (ActsFor : CpuId → Type 0) (cpu : CpuId) (old
   pub own : AllByRecursion (λ a. cpu_of_action a ≡ cpu) mine
   pub is : new ≡ mine ++ (others ++ old)
 
--- a call that is answered has had an effect, and the reply is that effect's
+-- a call that has a reply has taken effect, and the reply is that effect's
 abbrev pub Replies : Call → Option Effect → Option Reply → Type 0
 Replies call effect None = Unit {0}
 Replies call effect (Some reply) = (f : Effect) × (effect ≡ Some f) × (reply ≡ reply_of call f)
 
--- What a step of CPU c makes of its guests and its trace: nothing; or a thread does an instruction of its own; or a pass from thread to thread
--- ends; or the call at which a thread stands is polled. The call begins there if it had not begun (stage `Idle`), has its effect if a fresh one is
--- told, whose entry is the trace's last, and returns if it is answered, by its effect's reply.
+-- What a step of CPU c makes of its guests and its trace. Nothing changes, or a thread executes an
+-- instruction that shares nothing, or a pass ends, or the call at which a thread is gets polled. In
+-- a poll the call begins if it had not begun (stage `Idle`). It takes effect if the effect is
+-- fresh, and the effect's entry is then the trace's last. It returns if it has a reply, which is
+-- its effect's.
 pub data GuestsWent (c : CpuId) (guests : List (Option Guest)) (trace : List Entry) (guests2 : List (Option Guest)) (trace2 : List Entry) : Type 0 where
   guests_rest : guests2 ≡ guests → trace2 ≡ trace → GuestsWent c guests trace guests2 trace2
   guest_computes : (t : Tid) → guests2 ≡ with_guest guests t.0 computed → trace2 ≡ trace → GuestsWent c guests trace guests2 trace2

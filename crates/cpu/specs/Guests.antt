@@ -1,5 +1,5 @@
--- A thread's guest: what it does next, what a poll of its call makes of it, and how its entries led to its private state. Lists of
--- entries are newest first.
+-- A thread's guest: what it does next, what a poll of its call makes of it, and how its entries led
+-- to its private state. Lists of entries are newest first.
 use Rattle.std.specs.Prelude.{◌≡◌, ℕ, Bool, true, false, List, Option, Some, None, option_map, option_to_list}
 use Rattle.event_log.specs.{declared.{entries.{Entry.Entry, Kind.Kind}, ids.{BufId.BufId, CpuId.CpuId, Tid.Tid}}, Messages.Message}
 use Rattle.guest.specs.{declared.instructions.{Instruction.Instruction, Into.Into}, State.{State, at_start, next_of, message_from, moved_on, moved_into}}
@@ -12,7 +12,7 @@ use Rattle.event_log.specs.declared.entries.Kind.TheVariants as kind
 use Rattle.guest.specs.declared.instructions.Instruction.TheVariants as ins
 use Rattle.layer_traits.specs.declared.call_states.Stage.TheVariants as call_state_stage
 
--- what an instruction asks for
+-- what an instruction requests
 abbrev pub todo_at : State → Instruction → Todo
 todo_at s ins.Exit = Finish
 todo_at s ins.Yield = PassOn
@@ -32,7 +32,7 @@ todo_of g = todo_at g.thread (next_of g.program g.thread)
 abbrev pub new_guest : List Instruction → Guest
 new_guest program = record { program = program; thread = at_start; stage = Idle }
 
--- a guest after an instruction of its own
+-- a guest after an instruction that shares nothing
 abbrev pub computed : Guest → Guest
 computed g = record g { thread = after_local (next_of g.program g.thread) g.thread }
 
@@ -44,13 +44,14 @@ passed g = record g { thread = after_yield (next_of g.program g.thread) g.thread
 abbrev pub guest_ended : Guest → Guest
 guest_ended g = record g { stage = Ended }
 
--- the guest of the thread that runs, after a pass is done
+-- the guest of the running thread, after a pass is done
 abbrev pub after_pass : Pass → Guest → Guest
 after_pass YieldNow g = passed g
 after_pass End g = guest_ended g
 after_pass other g = g
 
--- the effect that came in a poll, after which the thread's call state has this one: a call whose effect has come has no other
+-- the effect that a poll had, after which the thread's call state has this effect: a call that had
+-- one before has no other
 abbrev pub fresh_effect : GuestStage → Option Effect → Option Effect
 fresh_effect Done effect = None
 fresh_effect stage effect = effect
@@ -61,7 +62,7 @@ stage_after effect (Some reply) = Idle
 stage_after (Some f) None = Done
 stage_after None None = Begun
 
--- the private state after a poll of the call: it moves on once the call replies
+-- the private state after a poll of the call: the guest continues once the call replies
 abbrev pub after_answer : Option Reply → Instruction → State → State
 after_answer None i s = s
 after_answer (Some NoBuffer) i s = s
@@ -83,7 +84,8 @@ abbrev pub after_sent : Kind → Option ℕ → State → State
 after_sent kind.SendClosed k s = moved_aside s k
 after_sent other k s = moved_on s
 
--- after the effect of a receive: one that found the buffer closed and empty goes to the target, and the registers stay
+-- after the effect of a receive: one that found the buffer closed and empty goes to the target, and
+-- the registers stay
 abbrev pub after_received : Kind → Into → Option ℕ → Message → State → State
 after_received kind.RecvClosed into k message s = moved_aside s k
 after_received other into k message s = moved_into s into message
@@ -95,8 +97,8 @@ state_after_effect (ins.Recv b into k) f s = after_received f.kind into k f.valu
 state_after_effect (ins.Close b) f s = moved_on s
 state_after_effect other f s = s
 
--- a guest has come by its entries to where it stands, by its stage: before its effect they lead to its state; after it, to the state
--- after the effect
+-- a guest's entries lead to its state, according to its stage: before the effect to its present
+-- state; after it, to the state after the effect
 abbrev pub HasComeIn : GuestStage → List Instruction → State → List Entry → Option Call → Option Effect → Type 0
 HasComeIn Idle program s es begun effect = (begun ≡ None) × IsProgramsCalls program es s
 HasComeIn Begun program s es begun effect = (c : Call) × (todo_at s (next_of program s) ≡ Calls c) × (begun ≡ Some c)
@@ -113,7 +115,7 @@ IsSettled call_state = begun_of call_state ≡ None → call_state.stage ≡ cal
 abbrev pub HasCome : Guest → List Entry → CallState → Type 0
 HasCome g es call_state = IsSettled call_state × HasComeIn g.stage g.program g.thread es (begun_of call_state) call_state.effect
 
--- the effect that a call has had: one that begins now has had none
+-- the effect that a call has had: a call that is about to begin has had none
 abbrev pub had : Option Call → Option Effect → Option Effect
 had None effect = None
 had (Some c) effect = effect
@@ -122,7 +124,7 @@ had (Some c) effect = effect
 abbrev pub entries_of : CpuId → Tid → BufId → Option Effect → List Entry
 entries_of cpu t b effect = option_to_list (option_map (entry_of cpu t b) effect)
 
--- whether a stage is that of a call without an effect
+-- whether a stage is that of a call that has not taken effect
 abbrev pub is_begun : GuestStage → Bool
 is_begun Begun = true
 is_begun stage = false

@@ -1,36 +1,40 @@
--- Message calls are linearizable (Herlihy and Wing 1990), by the steps of a schedule: each takes effect in one step, at which it has begun and has
--- not returned, and the one order is that of these steps.
+-- Message calls are linearizable (Herlihy and Wing 1990), with respect to the steps of a schedule.
+-- Each call takes effect in one step (its linearization point), at which it has begun and has not
+-- returned, and the one order is that of these steps.
 use Rattle.std.specs.{Prelude.{◌≡◌, ◌≢◌, ℕ, ◌<◌, ◌≤◌, List, [], ◌∷◌, ◌++◌, Contains, Some, length, slice_get}, List.AllByRecursion}
 use Rattle.{event_log.specs.declared.{entries.Entry.Entry, ids.CpuId.CpuId}, cpu.specs.{Claims.{CpuShown, IsMoment, Shown}, Cpus.GuestsWent}}
 
--- in a step of CPU c the order goes on: behind all calls that took effect before comes at most one, and it is c's
+-- in a step of CPU c the order grows: after all calls that took effect before, at most one is
+-- appended, and it is c's
 pub record OrderGrows (c : CpuId) (old new : List Entry) : Type 0 where
   pub more : List Entry
   pub is : new ≡ old ++ more
   pub few : length more ≤ 1
   pub own : AllByRecursion (λ e. e.cpu ≡ c) more
 
--- what a step of CPU c does to a system's calls: the order goes on; only this CPU's guests and trace change, so that calls begin, take effect and
--- return there alone
+-- What a step of CPU c does to a system's calls: the order grows. Only this CPU's guests and trace
+-- change, so that only its calls begin, take effect or return.
 pub record CallsGoOn (c : CpuId) (old new : Shown) : Type 0 where
   pub order : OrderGrows c old.order new.order
   pub own : (p q : CpuShown) → slice_get old.cpus c.0 ≡ Some p → slice_get new.cpus c.0 ≡ Some q → GuestsWent c p.guests p.trace q.guests q.trace
   pub others : (k : ℕ) → k ≢ c.0 → slice_get new.cpus k ≡ slice_get old.cpus k
 
--- the run of these steps from old to new, moment by moment: a step is not taken, or the calls go on in it. At each moment each call that has
--- returned is in the order, and of each thread at most one more, which it is inside
+-- The run of these steps from old to new, moment by moment: a step is not taken, or the order grows
+-- by it. At each moment each call that has returned is in the order, and of each thread at most one
+-- more, which the thread is inside.
 pub data IsLinearizable (old : Shown) : List CpuId → Shown → Type 0 where
   begins : IsLinearizable old [] old
   takes_none : {steps : List CpuId} {s : Shown} (c : CpuId) → IsLinearizable old steps s → IsLinearizable old (steps ++ c ∷ []) s
   takes_step : {steps : List CpuId} {s : Shown} (c : CpuId) (r : Shown) → IsLinearizable old steps s → CallsGoOn c s r → IsMoment r
       → IsLinearizable old (steps ++ c ∷ []) r
 
--- call a comes before call b
+-- call a precedes call b
 abbrev pub ComesBefore : List Entry → Entry → Entry → Type 0
 ComesBefore order a b = (i : ℕ) × (j : ℕ) × (i < j) × (slice_get order i ≡ Some a) × (slice_get order j ≡ Some b)
 
--- The order at a later moment is that at the first and then more. So a call that had taken effect at the first, as each had that had returned,
--- comes before each that had not, as none had that had not begun.
+-- The order at a later moment extends the order at the first: real-time order is preserved. At the
+-- first moment, each call that had returned had taken effect, and none had that had not begun. Each
+-- call that had taken effect precedes each that had not.
 pub record KeepsRealTime (first later : Shown) : Type 0 where
   pub at_first : IsMoment first
   pub at_later : IsMoment later
@@ -38,6 +42,6 @@ pub record KeepsRealTime (first later : Shown) : Type 0 where
   pub goes_on : later.order ≡ first.order ++ more
   pub before : (a b : Entry) → Contains first.order a → Contains more b → ComesBefore later.order a b
 
--- so it is with any two moments of a run
+-- this holds of any two moments of a run
 abbrev pub LinearRunsKeepRealTime : Type 0
 LinearRunsKeepRealTime = (first later : Shown) (steps : List CpuId) → IsMoment first → IsLinearizable first steps later → KeepsRealTime first later

@@ -1,4 +1,4 @@
--- What a system tells of its CPUs, its queues and its buffers is what the step table has there.
+-- What a system reports of its CPUs, its queues and its buffers is what the step table has there.
 use Rattle.std.specs.Prelude.{◌≡◌, ℕ, ◌<◌, ◌≤◌, true, false, List, [], length, Some, None, slice_get, slice_index, slice_index_or}
 use Rattle.event_log.specs.declared.{entries.Kind.Kind, ids.{BufId.BufId, LockId.TheVariants.{Buffer as AtBuffer, Pending}, Tid.Tid, TheConstants.THREADS}}
 use Rattle.event_log.specs.{declared.ids.CpuId.CpuId, Actions.phase, Buffers.{IsAllowedEffect, items_of}, Messages.Message, Runs.{Group, Receives, Sends}}
@@ -9,15 +9,16 @@ use Rattle.cpu.specs.Table.{Blocks.{Buffer, OfBuffer, OfPending, front, stands_i
 use Rattle.cpu.specs.Table.{Steps.{block_at, cpu_numbered, halted_at}, Edits.{line_on, on_side}}
 use Rattle.layer_traits.specs.declared.calls.Place.TheVariants as place
 
--- CPU c of the table has a private state of which this holds
+-- CPU c of the table has a private state that satisfies this predicate
 abbrev pub CpuHas : Whole → CpuId → (Private → Type 0) → Type 0
 CpuHas w c Has = (p : Private) × (slice_get w.cpus c.0 ≡ Some p) × Has p
 
--- the table has buffer b, and this holds of it
+-- the table has buffer b, and it satisfies this predicate
 abbrev pub BlockHas : Setup → Whole → BufId → (Buffer → Type 0) → Type 0
 BlockHas setup w b Has = (k : Buffer) × (block_at setup (AtBuffer b) w.log ≡ Some (OfBuffer k)) × Has k
 
--- thread t stands here by the table's own lists: those of a CPU's private state, its pending queue, or those of a buffer
+-- thread t is at this place according to the table's lists: those of a CPU's private state, its
+-- pending queue, or those of a buffer
 abbrev pub IsPlaceByTable : Setup → Whole → Tid → Place → Type 0
 IsPlaceByTable setup w t (place.Running c) = CpuHas w c (λ p. p.current ≡ Some t)
 IsPlaceByTable setup w t (place.Ready c) = CpuHas w c (λ p. stands_in t p.ready ≡ true)
@@ -29,8 +30,8 @@ IsPlaceByTable setup w t (place.WaitRecv b) = BlockHas setup w b (λ k. stands_i
 IsPlaceByTable setup w t (place.WaitSend b) = BlockHas setup w b (λ k. stands_in t k.waiting_senders ≡ true)
 IsPlaceByTable setup w t place.Ended = CpuHas w (home_cpu setup t) (λ p. (thread_at p t).ended ≡ true)
 
--- CPU k is told as it is: whether it has a section under way, why it is halted, its threads, its trace, which threads have ended, and who
--- is pending for it
+-- the system reports CPU k as it is: whether it has a section under way, why it is halted, its
+-- threads, its trace, which threads have ended, and which are pending for it
 pub record CpuIsObserved (setup : Setup) (s : Shown) (k : ℕ) (p : CpuShown) : Type 0 where
   pub inside : is_in_section (phase (cpu_numbered k) s.log) ≡ p.busy
   pub halted : halted_at setup (cpu_numbered k) p.private ≡ cpu_halted_at p.own p.guests p.trace p.limit
@@ -41,7 +42,8 @@ pub record CpuIsObserved (setup : Setup) (s : Shown) (k : ℕ) (p : CpuShown) : 
   pub ended : (t : Tid) → t.0 < length s.homes → (thread_at p.private t).ended ≡ is_in t p.own.ended
   pub pending : block_at setup (Pending (cpu_numbered k)) s.log ≡ Some (OfPending (pending_by s.moves (cpu_numbered k)))
 
--- buffer b is told as it is: who owns its lock, who sleeps at it and who waits, what it holds, how much it may hold, and whether it is closed
+-- the system reports buffer b as it is: which thread owns its lock, which sleep at it and which
+-- wait, what it holds, its capacity, and whether it is closed
 pub record BufferIsObserved (s : Shown) (b : ℕ) (k : Buffer) : Type 0 where
   pub owner : slice_index_or s.owners b None ≡ k.busy
   pub sleepers : (waiters_at s b).sleepers ≡ k.sleepers
@@ -51,26 +53,26 @@ pub record BufferIsObserved (s : Shown) (b : ℕ) (k : Buffer) : Type 0 where
   pub capacity : slice_index s.caps b ≡ k.capacity
   pub closed : slice_index_or s.closed b false ≡ k.closed
 
--- buffer b, as the system tells it, allows an effect of this kind with this message
+-- buffer b, as the system reports it, allows an effect of this kind with this message
 abbrev pub AllowsNow : Shown → ℕ → Kind → Message → Type 0
 AllowsNow s b e m = IsAllowedEffect e (slice_index_or s.closed b false) (slice_index s.caps b) (items_of s.contents b) m
 
--- no wake-up is lost at buffer b, of what the system tells: while nobody owns its lock, the first of neither line waits although the buffer
--- allows an effect of its call
+-- No lost wake-up at buffer b, in terms of what the system reports. While no thread owns its lock,
+-- the first thread of neither wait queue waits although the buffer allows an effect of its call.
 pub record IsAwakeAt (s : Shown) (b : ℕ) (k : Buffer) : Type 0 where
   pub on : (side : Side) → slice_index_or s.owners b None ≡ None → (t : Tid) (m : Message) → front (line_on side k) ≡ Some t
       → stands_in t (on_side side (waiters_at s b).receivers (waiters_at s b).senders) ≡ true
       → (e : Kind) → group_of e ≡ on_side side Receives Sends → AllowsNow s b e m → ⊥
 
--- the table has buffer b, and it is told as it is
+-- the table has buffer b, and the system reports it as it is
 pub record HasBuffer (setup : Setup) (s : Shown) (b : ℕ) : Type 0 where
   pub buffer : Buffer
   pub there : block_at setup (AtBuffer (buffer_at b)) s.log ≡ Some (OfBuffer buffer)
   pub told : BufferIsObserved s b buffer
   pub awake : IsAwakeAt s b buffer
 
--- each CPU is told as it is, and so is each buffer and the place of each thread; there is a CPU, and there are no more threads than a
--- machine may have
+-- the system reports each CPU, each buffer and the place of each thread as it is; there is a CPU,
+-- and there are no more threads than a machine may have
 pub record ObservedByTable (s : Shown) : Type 0 where
   pub cpus : (setup : Setup) → IsSetupFor setup s → (k : ℕ) (p : CpuShown) → slice_get s.cpus k ≡ Some p → CpuIsObserved setup s k p
   pub buffers : (setup : Setup) → IsSetupFor setup s → (b : ℕ) → b < length s.caps → HasBuffer setup s b
@@ -79,8 +81,9 @@ pub record ObservedByTable (s : Shown) : Type 0 where
   pub some : 0 < length s.cpus
   pub few : length s.homes ≤ THREADS
 
--- a quiet system is stuck: no live thread has a next effect that its buffer, as the system tells it, allows, nobody owns the lock of a
--- buffer, and nobody sleeps at one; no thread's place is among the sleepers of a lock
+-- In a quiescent system no thread can make progress. No live thread has a next effect that its
+-- buffer, as the system reports it, allows. No thread owns the lock of a buffer or sleeps at one,
+-- and no thread's place is among the sleepers of a lock.
 pub record IsStill (s : Shown) : Type 0 where
   pub stuck : (setup : Setup) → IsSetupFor setup s → IsStuck setup (whole_of s)
   pub refused : (setup : Setup) → IsSetupFor setup s → (p : Private) (u : Tid) → IsLive setup (whole_of s) p u

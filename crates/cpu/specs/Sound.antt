@@ -1,5 +1,6 @@
--- A system is one that the step table reaches from boot, whichever setup of the table is its. So it has lost no wake-up, and a call of a
--- CPU that runs alone returns.
+-- A system is one that the step table reaches from boot, under every setup of the table that is
+-- its. Therefore it has lost no wake-up, and a call returns if only its CPU steps and nothing
+-- contends with it.
 use Rattle.std.specs.Prelude.{◌≡◌, ℕ, ◌+◌, ◌<◌, ◌≤◌, List, [], ◌∷◌, length, map, replicate, Some}
 use Rattle.event_log.specs.declared.{entries.Kind.TheVariants.Close, ids.{BufId.BufId, CpuId.CpuId, LockId.TheVariants.Buffer as AtBuffer, Tid.Tid}}
 use Rattle.{boot.specs.Plan.BootPlan, cpu.specs.{Boots.homes_for, Claims.Shown, Systems.{GoesBy, whole_of}, Table.{Blocks.{Buffer, OfBuffer}, Setups.Setup}}}
@@ -11,7 +12,7 @@ pub record IsSetupFor (setup : Setup) (s : Shown) : Type 0 where
   pub goes : GoesBy setup s
   pub count : setup.cpus ≡ length s.cpus
 
--- the setup that a plan says
+-- the setup that a plan determines
 abbrev pub setup_for : BootPlan → Setup
 setup_for plan = record {
   cpus = plan.cpus;
@@ -21,7 +22,7 @@ setup_for plan = record {
   trace_room = plan.trace;
 }
 
--- the system is as the step table has it at boot
+-- the system is in the step table's state at boot
 abbrev pub BootsByTable : Shown → Type 0
 BootsByTable s = (setup : Setup) → IsSetupFor setup s → whole_of s ≡ whole_at_boot setup s.room
 
@@ -29,8 +30,9 @@ BootsByTable s = (setup : Setup) → IsSetupFor setup s → whole_of s ≡ whole
 abbrev pub IsReachedByTable : Shown → Type 0
 IsReachedByTable s = (setup : Setup) → IsSetupFor setup s → IsReached setup s.room (whole_of s)
 
--- the step table reaches the system, and it has lost no wake-up: while nobody owns the lock of a buffer, as its last section left it, the
--- first of neither line waits although the buffer allows its call
+-- The step table reaches the system, and it has lost no wake-up. While no thread owns the lock of a
+-- buffer, as its last section left it, the first thread of neither wait queue waits although the
+-- buffer allows its call.
 pub record SoundByTable (s : Shown) : Type 0 where
   pub reached : IsReachedByTable s
   pub awake : (setup : Setup) → IsSetupFor setup s → (b : BufId) (k : Buffer) → block_at setup (AtBuffer b) s.log ≡ Some (OfBuffer k) → NoWakeUpIsLost k
@@ -44,11 +46,14 @@ after_steps setup (c ∷ more) s = after_steps setup more (system_step setup c s
 abbrev pub RanByTable : Shown → List CpuId → Shown → Type 0
 RanByTable old steps new = (setup : Setup) → GoesBy setup old → whole_of new ≡ after_steps setup steps (whole_of old)
 
--- Where CPU c rests, no lock is taken or asked for, and its thread t stands at a call that has not begun, which its buffer allows and
--- whose line is empty: after 18 steps of c the call has returned, a close after 15, and after three steps more for a thread of another CPU
--- that it wakes; and one step before it is still under way. A send or a receive wakes the first of the other side's line, where that
--- waits, or nobody where it found its buffer closed; a close wakes the first of each line that waits, and of both none but where the buffer
--- may hold nothing.
+-- CPU c rests and is not halted, no spin lock is held or requested, and the running thread t is at
+-- a call that has not begun. No thread owns its buffer, which allows the call, and the call's wait
+-- queue is empty. If the system has room for 32 more steps, the call has returned after an exact
+-- number of steps of c, and is still under way one step earlier. The number is 18, and 15 for a
+-- close, and 3 more for each thread of another CPU that it wakes. A send or a receive wakes the
+-- first thread of the other side's wait queue, if that thread waits, and none if it found its
+-- buffer closed. A close wakes the first thread of each wait queue, if it waits, and threads of
+-- both only if the buffer's capacity is zero.
 abbrev pub ReturnsAlone : Shown → Type 0
 ReturnsAlone s = (setup : Setup) → IsSetupFor setup s → (c : CpuId) (p : Private) (t : Tid) → (ready : IsReady setup c (whole_of s) p t) → s.taken + 32 ≤ s.room
     → ((new : Shown) → RanByTable s (replicate (steps_to_return setup c ready.effect ready.block) c) new

@@ -1,4 +1,4 @@
--- What always holds of a system, what its steps leave as it was, and why a CPU of it takes no step.
+-- The invariant of a system, what its steps leave unchanged, and why a CPU of it takes no step.
 use Rattle.std.specs.Prelude.{◌≡◌, ℕ, ◌+◌, ◌^◌, ◌<◌, ◌≤◌, ◌==◌, List, [], ◌∷◌, ◌++◌, length, map, Option, Some, None, slice_get, if◌then◌else◌}
 use Rattle.std.specs.List.{AllByRecursion}
 use Rattle.event_log.specs.{declared.{entries.Entry.Entry, ids.{CpuId.CpuId, Tid.Tid, TheConstants.{CPUS, THREADS}}}, Actions.{Action, Rests, phase}}
@@ -6,7 +6,8 @@ use Rattle.layer_traits.specs.{declared.steps.{Reason.{Reason, TheVariants.Steps
 use Rattle.cpu.specs.{Table.{Setups.Setup, Steps.{Stepping, Whole, system_step, cpu_step}}, Tables.IsSetupOf, Cpus.{cpu_halted_at, reason_in, step_answer}}
 use Rattle.cpu.specs.{Claims.{CpuShown, IsMoment, Shown, programs_in}, Linear.CallsGoOn}
 
--- what no step changes: capacities, homes, programs, the number of CPUs, the room of each trace, and the room for steps
+-- what no step changes: capacities, home CPUs, programs, the number of CPUs, the room of each
+-- trace, and the room for steps
 pub record SamePlan (s r : Shown) : Type 0 where
   pub caps : r.caps ≡ s.caps
   pub homes : r.homes ≡ s.homes
@@ -27,7 +28,7 @@ own_reason_in (Some p) = own_reason p
 abbrev pub halted_in : CpuId → Shown → Option Reason
 halted_in c s = own_reason_in (slice_get s.cpus c.0)
 
--- a CPU with no reason of its own takes no step where the room for steps is used
+-- a CPU that has no reason takes no step if the room for steps is used
 abbrev pub reason_or : Option Reason → Shown → Option Reason
 reason_or None s = if s.taken == s.room then Some StepsUsed else None
 reason_or (Some reason) s = Some reason
@@ -36,40 +37,43 @@ reason_or (Some reason) s = Some reason
 abbrev pub reason_of : CpuId → Shown → Option Reason
 reason_of c s = reason_or (halted_in c s) s
 
--- x has the number k, and is as it is to be
+-- x has the number k, and satisfies the predicate
 pub record IsAt {X : Type 0} (IsOne : X → Type 0) (number : X → CpuId) (k : ℕ) (x : X) : Type 0 where
   pub number_is : number x ≡ record { 0 = k }
   pub holds : IsOne x
 
--- what always holds of a machine and its CPUs
+-- the invariant of a machine and its CPUs
 pub record IsSystem {X N : Type 0} (IsOne : X → Type 0) (number : X → CpuId) (ActsFor MayHold : CpuId → Type 0) (IsStepwise : Type 0) (acts : List (Action N))
     (cpus : List X) (homes : List CpuId) (seen : List Entry) (room taken left : ℕ) (Sound : Type 0) : Type 0 where
-  -- each CPU is numbered by its place, and is as it is to be; there is one, and no more than a machine may have
+  -- each CPU's number is its place in the list, and it satisfies its predicate; there is at least
+  -- one, and no more than a machine may have
   pub each : (k : ℕ) (x : X) → slice_get cpus k ≡ Some x → IsAt IsOne number k x
   pub some : 0 < length cpus
   pub most : length cpus ≤ CPUS
   -- and there are no more threads than a machine may have
   pub crowd : length homes ≤ THREADS
-  -- the machine is this system's alone: nobody else acts in it; each effect is of one of its CPUs, and each thread at home with one
+  -- the machine belongs to this system only: no other holder acts in it; each effect is of one of
+  -- its CPUs, and each thread's home is one of them
   pub acts_for : (c : CpuId) → c.0 < CPUS → ActsFor c
   pub known : AllByRecursion (λ e. e.cpu.0 < length cpus) seen
   pub within : (t : Tid) (home : CpuId) → home_of homes t ≡ Some home → home.0 < length cpus
   pub rest : IsStepwise → (c : CpuId) → length cpus ≤ c.0 → c.0 < CPUS → phase c acts ≡ Rests
   -- no CPU past them holds a lock
   pub holders : (c : CpuId) → length cpus ≤ c.0 → c.0 < CPUS → MayHold c → ⊥
-  -- there are no more effects than steps, no more steps than there is room for, and the machine has room for those that are left
+  -- there are no more effects than steps, no more steps than room, and the machine has room for the
+  -- steps that are left
   pub short : length seen ≤ taken
   pub used : taken ≤ room
   pub small : room < 2 ^ 64
   pub enough : room ≤ taken + left
-  -- and what the step table says of it
+  -- and what the step table adds to the invariant
   pub sound : Sound
 
 -- a system as the step table has it
 abbrev pub whole_of : Shown → Whole
 whole_of s = record { cpus = map (λ p. p.private) s.cpus; log = s.log; room = s.room; taken = s.taken }
 
--- a setup of the step table is this system's: one that agrees with each of its CPUs
+-- a setup of the step table is this system's if it agrees with each of its CPUs
 pub record GoesBy (setup : Setup) (s : Shown) : Type 0 where
   pub each : (k : ℕ) (p : CpuShown) → slice_get s.cpus k ≡ Some p → IsSetupOf setup s.homes s.caps p.guests p.limit
 
@@ -78,8 +82,9 @@ abbrev pub SteppedByTable : CpuId → Shown → Shown → Step → Type 0
 SteppedByTable c old new answer = (setup : Setup) → GoesBy setup old
     → ◌≡◌ {A = Stepping} (record { next = whole_of new; answer = answer }) (system_step setup c (whole_of old))
 
--- what a step of CPU c does: where the CPU has no reason against it, it is taken and counted, at most one call takes effect in it, behind all
--- that took effect before, and it is the step table's where the machine does one action a step; else nothing changes
+-- What a step of CPU c does. If the CPU has no reason against it, it is taken and counted, and at
+-- most one call takes effect in it, after all that took effect before. It is the step table's if
+-- the machine does one action a step. Otherwise nothing changes.
 pub data WentOn (IsStepwise : Type 0) (c : CpuId) (old new : Shown) : Type 0 where
   took : reason_of c old ≡ None → new.taken ≡ old.taken + 1 → CallsGoOn c old new → IsMoment new
       → (IsStepwise → SteppedByTable c old new Stepped) → WentOn IsStepwise c old new
@@ -91,7 +96,7 @@ pub data Ran (IsStepwise : Type 0) (start : Shown) : List CpuId → Shown → Ty
   goes : {steps : List CpuId} {s : Shown} (c : CpuId) (r : Shown) → Ran IsStepwise start steps s → WentOn IsStepwise c s r
       → Ran IsStepwise start (steps ++ c ∷ []) r
 
--- the table's step of CPU c answers by this reason of the CPU's own to take none
+-- the table's step of CPU c reports that it takes none, for this reason of the CPU
 abbrev pub HaltsByTable : CpuId → Shown → Option Reason → Type 0
 HaltsByTable c s own = (setup : Setup) → GoesBy setup s → (p : CpuShown) → slice_get s.cpus c.0 ≡ Some p
     → (cpu_step setup c p.private s.log).answer ≡ step_answer own

@@ -19,8 +19,8 @@ guest_states guests = map guest_state_of guests
 abbrev pub private : Buffering → List (Option Guest) → List Entry → Private
 private own guests trace = private_of own (guest_states guests) trace
 
--- a setup of a machine with these homes and capacities, for a CPU with these guests and this limit of its trace; the programs of other
--- homes are free
+-- a setup of a machine with these homes and capacities, for a CPU with these guests and this limit
+-- of its trace; the programs of other homes are arbitrary
 pub record IsSetupOf (setup : Setup) (homes : List CpuId) (caps : List ℕ) (guests : List (Option Guest)) (limit : ℕ) : Type 0 where
   pub homes_are : setup.homes ≡ homes
   pub caps_are : setup.caps ≡ caps
@@ -31,20 +31,22 @@ pub record IsSetupOf (setup : Setup) (homes : List CpuId) (caps : List ℕ) (gue
 abbrev pub bare : List CpuId → List ℕ → Setup
 bare homes caps = record { cpus = 0; homes = homes; programs = []; caps = caps; trace_room = 0 }
 
--- what the table asks of a CPU besides
+-- what the step table adds to a CPU's invariant
 pub record IsTabled (homes : List CpuId) (caps : List ℕ) (number : CpuId) (own : Buffering) (under_way : Option UnderWay) (guests : List (Option Guest))
     (opening : LockId → Option TowerBlock) : Type 0 where
-  -- all threads stand to its part as they may, and the opening blocks are the table's
+  -- all threads are in a state that its part allows, and the opening blocks are the table's
   pub part : IsPart own
   pub opens : OpensAs (bare homes caps) number opening
-  -- it has guests of its home's threads alone, each that has ended is among the ended, and the table of guests has a place for each home
+  -- it has guests only of its home threads, each guest that has ended is among the ended, and the
+  -- table of guests has a place for each thread
   pub only : (t : Tid) (g : Guest) → guest_at guests t.0 ≡ Some g → home_of homes t ≡ Some number
   pub ends : (t : Tid) (g : Guest) → guest_at guests t.0 ≡ Some g → is_ended g.stage ≡ true → is_in t (threads_in own).ended ≡ true
   pub size : length guests ≡ length homes
   -- a pass that touches nothing shared is never under way
   pub quick : (p : Pass) → under_way ≡ Some (Passing p) → IsLocalPass p → ⊥
 
--- a CPU went from the old part, guests, trace and actions to the new ones by one step of the table, whatever setup of its machine it is
+-- a CPU went from the old part, guests, trace and actions to the new ones by one step of the table,
+-- under every setup of its machine
 abbrev pub WentByTable : (CpuId → Type 0) → List CpuId → List ℕ → CpuId → ℕ → (own own2 : Buffering) → (guests guests2 : List (Option Guest))
     → (trace trace2 : List Entry) → (old new : List (Action TowerName)) → Step → Type 0
 WentByTable ActsFor homes caps number limit own own2 guests guests2 trace trace2 old new answer = (setup : Setup) → IsSetupOf setup homes caps guests limit

@@ -1,4 +1,4 @@
-//! One CPU over a layer of message calls. No call takes memory or waits.
+//! One CPU over a layer of message calls. No function allocates or blocks.
 
 ghost use Rattle.std.specs.Prelude.{◌≡◌, ◌+◌, ◌<◌, true, false, ◌≤◌, [], ◌∷◌, ◌++◌, Some, None, if◌then◌else◌, length, vec_capacity};
 ghost use Rattle.{layer_traits.specs.{Views.OwnParts.threads_in, Layers.BufferLaw.entry_of, declared.calls.Call.Call}, cpu.specs.Guests.entries_of};
@@ -9,33 +9,34 @@ use crate::guests::{Guest, Todo};
 use event_log::{BufId, CpuId, Entry, Tid};
 use layer_traits::{Call, CallLayer, Effect, Ghost, IpcLaw, Pass, Reason, Step};
 
-/// What a CPU does next that is not halted.
+/// What a CPU that is not halted does next.
 #[derive(Drop)]
 pub enum Choice {
-    /// It polls this message call of the thread that runs.
+    /// It polls this message call of the running thread.
     Polls(Tid, Ghost<Call>),
-    /// It polls this pass from thread to thread.
+    /// It polls this pass (a scheduling operation).
     Passes(Pass),
-    /// The thread that runs does an instruction of its own.
+    /// The running thread executes an instruction that touches only its own line and registers.
     Computes(Tid),
 }
 
-/// One CPU: its part of the layer of message calls, and what it keeps for itself. All its room is
-/// taken when it is made.
+/// One CPU: its part of the layer of message calls, and its private data. It allocates nothing
+/// after it is made.
 ///
-/// It agrees with a machine (`AgreesAt`) if its part does and is the one of its number, its threads, guests
-/// and trace agree with what was done there and, if each poll is one action, it stands as the step table says.
+/// It agrees with a machine (`AgreesAt`) if its part does and has the CPU's number. Its threads,
+/// guests and trace must also agree with what was done in the machine. If each poll is one action,
+/// the CPU is also in the state that the step table gives.
 #[derive(Drop)]
 pub struct Cpu<I: CallLayer<IpcLaw>> {
-    /// Its part of the layer.
+    /// The CPU's part of the layer.
     pub part: I,
-    /// Its number.
+    /// The CPU's number.
     pub number: CpuId,
-    /// The guest of each thread by its number; `None` at threads of other homes.
+    /// The guest of each thread, by the thread's number; `None` at threads of other home CPUs.
     pub guests: Guests,
-    /// The entries of its calls that took effect, oldest first.
+    /// The entries of the CPU's calls that took effect, oldest first.
     pub trace: Vec<Entry>,
-    /// How many entries the trace may have.
+    /// The largest number of entries in the trace.
     pub limit: usize,
 }
 
@@ -45,7 +46,7 @@ impl<I: CallLayer<IpcLaw>> Cpu<I> {
     ghost use Rattle.cpu.specs.{CpuSteps.{AgreesAt, GoesAt, RanWithin, SteppedAt}, Cpus.{chosen, cpu_halted_at, step_answer}};
     ghost use Rattle.layer_traits.specs.Polling.Spins.{BeginWith, Misses, Spun};
 
-    /// What the CPU does next, where it is not halted.
+    /// What the CPU does next if it is not halted.
     #[inline(always)]
     fn choice(&self) -> Choice
         requires { (t : _) → (threads_in (I.own self.now.part)).current ≡ Some t → t.0 < length self.now.guests.items }
@@ -69,9 +70,9 @@ impl<I: CallLayer<IpcLaw>> Cpu<I> {
         }
     }
 
-    /// Why the CPU takes no step where no section is under way: `AllEnded` or `TraceFull`.
+    /// Why the CPU takes no step while no section is under way: `AllEnded` or `TraceFull`.
     ///
-    /// Requires: the thread that runs, if there is one, has a place in the table of guests.
+    /// Requires: the running thread, if there is one, has a place in the table of guests.
     #[inline(always)]
     pub fn halted(&self) -> Option<Reason>
         requires { (t : _) → (threads_in (I.own self.now.part)).current ≡ Some t → t.0 < length self.now.guests.items }
@@ -92,11 +93,11 @@ impl<I: CallLayer<IpcLaw>> Cpu<I> {
         None
     }
 
-    /// Why the CPU takes no step: `AllEnded` where each of its threads has ended, and `TraceFull`
-    /// where its trace has no room for the call that its thread is about to begin. Neither comes
-    /// while a section is under way.
+    /// Why the CPU takes no step. It is `AllEnded` if each of its threads has ended. It is
+    /// `TraceFull` if its trace has no room for the call that its thread is about to begin. It is
+    /// neither while a section is under way.
     ///
-    /// Requires: the thread that runs, if there is one, has a place in the table of guests.
+    /// Requires: the running thread, if there is one, has a place in the table of guests.
     #[inline(always)]
     pub fn reason(&self) -> Option<Reason>
         requires { (t : _) → (threads_in (I.own self.now.part)).current ≡ Some t → t.0 < length self.now.guests.items }
@@ -115,11 +116,11 @@ impl<I: CallLayer<IpcLaw>> Cpu<I> {
         self.trace.as_slice()
     }
 
-    /// Goes on with the message call at which the thread that runs stands, which is the one asked for:
-    /// up to `most` steps of it, at most until it ends, has its effect, or leaves the thread not
-    /// running. Returns how many it took.
+    /// Continues the message call of the running thread, which is the call asked for. Takes up to
+    /// `most` steps, at most until the call ends, takes effect, or leaves the thread not running.
+    /// Returns how many steps it took.
     ///
-    /// Requires: as `run`. The thread runs and its guest stands at that call. If the call is about to
+    /// Requires: as `run`. The thread runs and its guest is at that call. If the call is about to
     /// begin, the trace has room for its entry.
     #[inline(always)]
     fn call(&mut self, m: &mut I::Machine, thread: Tid, asked: Ghost<Call>, most: usize) -> usize
@@ -138,7 +139,7 @@ impl<I: CallLayer<IpcLaw>> Cpu<I> {
         run.actions
     }
 
-    /// Polls this pass from thread to thread.
+    /// Polls this pass (a scheduling operation).
     #[inline(always)]
     fn pass(&mut self, m: &mut I::Machine, pass: Pass)
         requires goes { GoesAt ⟦<I as CallLayer<IpcLaw>>⟧ m.old self.old 1 }
@@ -152,7 +153,8 @@ impl<I: CallLayer<IpcLaw>> Cpu<I> {
         }
     }
 
-    /// Polls a pass that is no drain. It stands out of line, since most steps are calls' and drains'.
+    /// Polls a pass that is no drain. It is not inlined, because most steps belong to calls and
+    /// drains.
     #[inline(never)]
     fn passes(&mut self, m: &mut I::Machine, pass: Pass)
         requires goes { GoesAt ⟦<I as CallLayer<IpcLaw>>⟧ m.old self.old 1 }
@@ -162,10 +164,10 @@ impl<I: CallLayer<IpcLaw>> Cpu<I> {
         self.pass(m, pass);
     }
 
-    /// Whether the CPU goes on with a drain: it is not halted, and nobody runs on it, is in its hand or is
-    /// ready.
+    /// Whether the CPU continues to drain: it is not halted, it has no running or ready thread, and
+    /// its hand (the slot for a thread in transit to another CPU) is empty.
     ///
-    /// Requires: the thread that runs, if there is one, has a place in the table of guests.
+    /// Requires: the running thread, if there is one, has a place in the table of guests.
     #[inline(always)]
     fn goes_on_draining(&self) -> bool
         requires { (t : _) → (threads_in (I.own self.now.part)).current ≡ Some t → t.0 < length self.now.guests.items }
@@ -178,9 +180,10 @@ impl<I: CallLayer<IpcLaw>> Cpu<I> {
         self.reason().is_none()
     }
 
-    /// Goes on with the drain that the CPU has chosen, and with those that follow while it has nobody to
-    /// run: up to `most` steps, looks at locks among them, until a look has missed. Returns how many it
-    /// took. It stands out of line, with one kind of pass, so that an idle CPU's steps are cheap.
+    /// Continues the drain that the CPU has chosen, and the drains that follow while it has no
+    /// thread to run. Takes up to `most` steps, polls of locks among them, until a poll fails.
+    /// Returns how many steps it took. It is not inlined and knows one kind of pass, so that an
+    /// idle CPU's steps are cheap.
     ///
     /// Requires: as `run`. The CPU has chosen a drain.
     #[inline(never)]
@@ -202,7 +205,7 @@ impl<I: CallLayer<IpcLaw>> Cpu<I> {
         }
     }
 
-    /// Lets this thread, which runs, do an instruction of its own.
+    /// Lets this thread, which runs, execute an instruction that shares nothing.
     #[inline(always)]
     fn compute(&mut self, m: &mut I::Machine, thread: Tid)
         requires goes { GoesAt ⟦<I as CallLayer<IpcLaw>>⟧ m.old self.old 1 }
@@ -213,9 +216,9 @@ impl<I: CallLayer<IpcLaw>> Cpu<I> {
         let _ = m;
     }
 
-    /// The steps of a CPU that is not halted and asks for no further look at a lock: each one local
-    /// action or one atomic action. Where it stands at a message call these are up to `most` steps of
-    /// it, where it is to drain those of its drains, and else the step is one. Returns how many it took.
+    /// The steps of a CPU that is not halted and needs no further poll of a lock: each one local
+    /// action or one atomic action. If the CPU is at a message call or at a drain, these are up to
+    /// `most` steps of it; otherwise it is one step. Returns how many steps it took.
     ///
     /// Requires: as `run`.
     #[inline(always)]
@@ -237,11 +240,11 @@ impl<I: CallLayer<IpcLaw>> Cpu<I> {
         }
     }
 
-    /// The steps of a CPU that is not halted, one behind the other, looks at locks among them: up to `most`,
-    /// until the CPU is halted or a look has missed. Returns how many it took.
+    /// Runs a CPU that is not halted for up to `most` steps, until it is halted or a poll of a lock
+    /// fails. Polls count as steps. Returns how many steps it took.
     ///
-    /// Requires: CPU and machine agree. The machine has room for as many events as `most` tells, which is
-    /// not 0. The CPU is not halted.
+    /// Requires: CPU and machine agree. The machine has room for `most` more events; `most` is not
+    /// 0. The CPU is not halted.
     #[inline(always)]
     pub fn run(&mut self, m: &mut I::Machine, most: usize) -> usize
         requires { GoesAt ⟦<I as CallLayer<IpcLaw>>⟧ m.old self.old most }
@@ -259,10 +262,10 @@ impl<I: CallLayer<IpcLaw>> Cpu<I> {
         }
     }
 
-    /// One step of the CPU that asks for no further look at a lock: one local action or one atomic
-    /// action. `Halted` where it took none, and then nothing changed: `AllEnded` where each home
-    /// thread of the CPU has ended, `TraceFull` where its thread is about to begin a call that its
-    /// trace has no room for.
+    /// Takes one step of a CPU that needs no further poll of a lock: one local action or one atomic
+    /// action. Returns `Halted` if it took none, and then nothing changed. The reason is `AllEnded`
+    /// if each home thread of the CPU has ended, and `TraceFull` if the trace has no room for the
+    /// call that its thread is about to begin.
     ///
     /// Requires: CPU and machine agree. The machine has room for one more event.
     #[inline(always)]
@@ -284,11 +287,12 @@ impl<I: CallLayer<IpcLaw>> Cpu<I> {
         Step::Stepped
     }
 
-    /// Takes at once looks of a section that waits at its lock and whose look would miss: one for each of
-    /// the steps at the front of `steps` that are this CPU's, at most. Returns how many it took; nothing
-    /// else has changed.
+    /// If a section waits for its lock and its polls must fail, takes polls in bulk: at most one
+    /// for each step of this CPU at the front of `steps`. Returns how many it took; nothing else
+    /// has changed.
     ///
-    /// Requires: the part and the machine agree. The machine has room for as many events as there are steps.
+    /// Requires: the part and the machine agree. The machine has room for as many events as there
+    /// are steps.
     #[inline(always)]
     pub(crate) fn spin(&self, m: &mut I::Machine, steps: &[CpuId]) -> usize
         requires fits { I.Fits self.now.part m.old }
@@ -305,10 +309,10 @@ impl<I: CallLayer<IpcLaw>> Cpu<I> {
         self.part.spin(m, steps)
     }
 
-    /// One step of the CPU: one local action or one atomic action. `Halted` where it took none, and
-    /// then nothing changed: `AllEnded` where each home thread of the CPU has ended, `TraceFull`
-    /// where its thread is about to begin a call that its trace has no room for. Neither comes
-    /// while a section is under way.
+    /// Takes one step of the CPU: one local action or one atomic action. Returns `Halted` if it
+    /// took none, and then nothing changed. The reason is `AllEnded` if each home thread of the CPU
+    /// has ended, and `TraceFull` if the trace has no room for the call that its thread is about to
+    /// begin. Neither occurs while a section is under way.
     ///
     /// Requires: CPU and machine agree. The machine has room for one more event.
     pub fn step(&mut self, m: &mut I::Machine) -> Step
@@ -329,7 +333,7 @@ impl<I: CallLayer<IpcLaw>> Cpu<I> {
     }
 }
 
-/// What a CPU does next on which this thread runs, with this woken thread in its hand.
+/// What a CPU does next if this thread runs on it and this woken thread is in its hand.
 #[inline(always)]
 fn choice_for(thread: Tid, hand: Option<Tid>, guest: &Option<Guest>) -> Choice
     ensures { result ≡ chosen_for thread hand guest.now }
@@ -361,7 +365,7 @@ fn is_in_no_call(guest: &Option<Guest>) -> bool
     }
 }
 
-/// Writes the entry of a call's effect, where there is one and it is fresh; room for it is reserved.
+/// Writes the entry of a call's effect, if there is one and it is fresh; room for it is reserved.
 #[inline(always)]
 fn note_effect(
     trace: &mut Vec<Entry>,
@@ -383,7 +387,7 @@ fn note_effect(
     }
 }
 
-/// Writes an entry, for which room is reserved. It stands out of line, since most polls write none.
+/// Writes an entry, for which room is reserved. It is not inlined, because most polls write none.
 #[inline(never)]
 fn put_entry(trace: &mut Vec<Entry>, entry: Entry)
     requires { length trace.old.items < vec_capacity trace.old }

@@ -9,19 +9,21 @@ use event_log::{BufId, Tid};
 use layer_traits::{Call, Effect, Ghost, Pass, ReplyKind};
 use std::marker::Model;
 
-/// The guest of each thread by its number, `None` at threads of other homes. It is seen as their
-/// table. It keeps two counts over it, so that nobody who asks for one goes through the table, and
-/// the call that was made last, so that a call is made once while its thread polls it.
+/// The guest of each thread by its number, `None` at threads of other home CPUs. In clauses it is
+/// their table.
+///
+/// It caches two counts over the table, so that no caller needs to scan it. It also caches the call
+/// that was made last, so that a call is made once while its thread polls it.
 #[derive(Drop)]
 pub struct Guests {
     table: Vec<Option<Guest>>,
-    /// How many are in a call that has had no effect.
+    /// How many are in a call that has not taken effect.
     begun: usize,
     /// How many have not ended.
     live: usize,
     /// The call that was made last.
     kept: Call,
-    /// The thread whose guest stands at it, as long as it does.
+    /// The thread whose guest is at the call `kept`, for as long as it is.
     kept_by: Option<Tid>,
 }
 
@@ -55,7 +57,7 @@ impl Guests {
         }
     }
 
-    /// What stands at this thread's number.
+    /// What the table holds at this thread's number.
     ///
     /// Requires: the thread's number is one of the table.
     #[inline(always)]
@@ -66,7 +68,7 @@ impl Guests {
         &self.table[usize::from(thread.0)]
     }
 
-    /// Whether this thread is at home with the CPU: a guest stands at its number.
+    /// Whether this CPU is the thread's home CPU: the table has a guest at its number.
     #[inline(always)]
     pub(crate) fn has(&self, thread: Tid) -> bool
         ensures { result ≡ is_some (guest_at self.now.items thread.0) }
@@ -74,7 +76,7 @@ impl Guests {
         matches!(self.table.get(usize::from(thread.0)), Some(Some(_)))
     }
 
-    /// How many of the guests are in a call that has had no effect.
+    /// How many of the guests are in a call that has not taken effect.
     #[inline(always)]
     pub(crate) fn begun(&self) -> usize
         ensures { result ≡ begun_count self.now.items }
@@ -90,12 +92,12 @@ impl Guests {
         self.live == 0
     }
 
-    /// The message call at which this thread's guest stands, which is the one asked for, where it
-    /// lies: nothing is copied. It is made at the first poll, and kept until the guest moves on or
-    /// another thread calls.
+    /// The message call at which this thread's guest is, which is the call asked for. Returns a
+    /// reference, so that nothing is copied. The call is made at the first poll, and kept until the
+    /// guest continues or another thread calls.
     ///
     /// Requires: the thread's number is one of the table, and the call asked for is the one at
-    /// which its guest stands.
+    /// which its guest is.
     #[inline(always)]
     pub(crate) fn call_of(&mut self, thread: Tid, asked: Ghost<Call>) -> &Call
         requires within { thread.0 < length self.old.items }
@@ -111,8 +113,8 @@ impl Guests {
         &self.kept
     }
 
-    /// The message call at which this thread's guest stands, for clauses alone, where it is the one that
-    /// is kept. So nobody reads its program.
+    /// The message call at which this thread's guest is, in clauses only, if it is the call that is
+    /// kept. With it a poll does not read the guest's program.
     #[inline(always)]
     pub(crate) fn kept_for(&self, thread: Tid) -> Option<Ghost<Call>>
         ensures { IfSome result (λ call. stands_at_call (guest_at self.now.items thread.0) call) }
@@ -124,8 +126,8 @@ impl Guests {
         }
     }
 
-    /// Notes what a poll of a thread's call answered, and tells whether an effect that the call has
-    /// after it came in it.
+    /// Records the result of a poll of a thread's call. Returns whether an effect that the call has
+    /// after the poll was made by that poll.
     ///
     /// Requires: the thread's number is one of the table.
     #[inline(always)]
@@ -150,13 +152,13 @@ impl Guests {
         if answer.is_some() {
             self.kept_by = None;
         }
-        // A poll that leaves the stage and does not answer had no effect.
+        // A poll that leaves the stage unchanged and returns no result had no effect.
         fresh && (answer.is_some() || before != after)
     }
 
-    /// Notes that a pass is done which began while this thread ran.
+    /// Records that a pass is done which began while this thread ran.
     ///
-    /// Requires: the thread that runs, if there is one, has a number of the table.
+    /// Requires: the running thread, if there is one, has a number of the table.
     #[inline(always)]
     pub(crate) fn note_pass(&mut self, runs: Option<Tid>, pass: Pass)
         requires { (t : _) → runs ≡ Some t → t.0 < length self.old.items }
@@ -167,7 +169,7 @@ impl Guests {
         }
     }
 
-    /// Tells the guest of this thread, which ran, of this pass.
+    /// Records this pass with the guest of this thread, which ran.
     #[inline(always)]
     fn record_pass(&mut self, thread: Tid, pass: Pass)
         requires { thread.0 < length self.old.items }
@@ -183,7 +185,7 @@ impl Guests {
         self.kept_by = None;
     }
 
-    /// Notes that a thread did an instruction of its own.
+    /// Records that a thread executed an instruction that shares nothing.
     ///
     /// Requires: the thread's number is one of the table.
     #[inline(always)]
@@ -199,7 +201,7 @@ impl Guests {
     }
 }
 
-/// Makes the message call at which this guest stands, if it stands at one.
+/// Makes the message call at which this guest is, if it is at one.
 #[inline(always)]
 fn keep_call(guest: &Option<Guest>, kept: &mut Call)
     ensures { (call : Call) → stands_at_call guest.now call → kept.new ≡ call }
@@ -209,7 +211,7 @@ fn keep_call(guest: &Option<Guest>, kept: &mut Call)
     }
 }
 
-/// Counts a guest by the stage at which it now stands, and no more by the one before.
+/// Counts a guest by its stage after a poll or a pass, and not by the stage before it.
 #[inline(always)]
 fn recount(begun: &mut usize, live: &mut usize, before: GuestStage, after: GuestStage)
     requires begun { one_if (is_begun before) ≤ begun.old }
@@ -219,14 +221,14 @@ fn recount(begun: &mut usize, live: &mut usize, before: GuestStage, after: Guest
     ensures begun { begun.new + one_if (is_begun before) ≡ begun.old + one_if (is_begun after) }
     ensures live { live.new + one_if (not (is_ended before)) ≡ live.old + one_if (not (is_ended after)) }
 {
-    // Most polls leave the stage.
+    // Most polls leave the stage unchanged.
     if before != after {
         *begun = recounted(*begun, before.is_begun(), after.is_begun());
         *live = recounted(*live, before.is_live(), after.is_live());
     }
 }
 
-/// What is left of a count, or comes to it, where one that was counted or not now is or is not.
+/// A count after an item changed: `before` and `after` say whether the item is counted.
 #[inline(always)]
 fn recounted(count: usize, before: bool, after: bool) -> usize
     requires counted { one_if before ≤ count }
@@ -242,7 +244,7 @@ fn recounted(count: usize, before: bool, after: bool) -> usize
     }
 }
 
-/// How many of the guests are in a call that has had no effect.
+/// How many of the guests are in a call that has not taken effect.
 fn count_begun(guests: &[Option<Guest>]) -> usize
     ensures { result ≡ begun_count guests.now }
 {
@@ -268,7 +270,7 @@ fn count_live(guests: &[Option<Guest>]) -> usize
     count
 }
 
-/// Whether there is a guest in a call that has had no effect.
+/// Whether there is a guest in a call that has not taken effect.
 fn is_begun(guest: &Option<Guest>) -> bool
     ensures { result ≡ is_begun_guest guest.now }
 {

@@ -1,4 +1,4 @@
-//! A thread's guest as its CPU keeps it.
+//! A thread's guest as its CPU keeps it: the program, its registers, and where it is in a call.
 
 ghost use Rattle.std.specs.Prelude.{◌≡◌, Option, Some, None, if◌then◌else◌};
 ghost use Rattle.layer_traits.specs.{declared.calls.{Call.Call, Effect.Effect}, Layers.BufferLaw.{answer_with, reply_with}};
@@ -8,14 +8,14 @@ use event_log::BufId;
 use guest::{Instruction, Program, Thread};
 use layer_traits::{Call, Effect, Ghost, Pass, ReplyKind, message_of};
 
-/// How a guest stands to its program.
+/// Where a guest is in its program: between instructions, in a message call, or ended.
 #[derive(Clone, Copy, Debug, PartialEq, Eq)]
 pub enum GuestStage {
-    /// It stands before an instruction that it has not begun.
+    /// It is at an instruction that it has not begun.
     Idle,
-    /// It has begun the message call at which it stands, and the call has had no effect yet.
+    /// It has begun a message call, and the call has not taken effect.
     Begun,
-    /// The message call at which it stands has had its effect, and has not returned yet.
+    /// Its message call has taken effect, and has not returned.
     Done,
     /// It has ended.
     Ended,
@@ -25,7 +25,7 @@ impl GuestStage {
     ghost use Rattle.std.specs.Prelude.{◌≡◌, not};
     ghost use Rattle.cpu.specs.Guests.{is_begun, is_ended};
 
-    /// Whether it is inside a call that has had no effect.
+    /// Whether it is inside a call that has not taken effect.
     #[inline(always)]
     pub(crate) fn is_begun(self) -> bool
         ensures { result ≡ is_begun self }
@@ -36,7 +36,7 @@ impl GuestStage {
         }
     }
 
-    /// Whether it is not the last one.
+    /// Whether it is not `Ended`.
     #[inline(always)]
     pub(crate) fn is_live(self) -> bool
         ensures { result ≡ not (is_ended self) }
@@ -55,7 +55,7 @@ pub enum Todo {
     Finish,
     /// It yields to the other threads of its CPU.
     PassOn,
-    /// It does an instruction that touches its own line and registers alone.
+    /// It executes an instruction that touches only its own line and registers.
     Compute,
     /// It polls this message call.
     Calls(Ghost<Call>),
@@ -68,7 +68,7 @@ pub struct Guest {
     pub program: Program,
     /// Its line and registers.
     pub thread: Thread,
-    /// How it stands to its program.
+    /// Where it is in its program.
     pub stage: GuestStage,
 }
 
@@ -104,7 +104,7 @@ impl Guest {
         }
     }
 
-    /// The message call at which the guest stands.
+    /// The message call at which the guest is.
     #[inline(always)]
     fn call(&self) -> Call
         ensures { (call : Call) → todo_of self.now ≡ Calls call → result ≡ call }
@@ -114,8 +114,8 @@ impl Guest {
         call
     }
 
-    /// Makes the message call at which the guest stands, if it stands at one. Each kind of call is written
-    /// where it is kept: none is copied.
+    /// Makes the message call at which the guest is, if it is at one. Each kind of call is written
+    /// in its place, so that none is copied.
     #[inline(always)]
     pub(crate) fn make_call(&self, kept: &mut Call)
         ensures { (call : Call) → todo_of self.now ≡ Calls call → kept.new ≡ call }
@@ -126,7 +126,7 @@ impl Guest {
             }
             Instruction::Close(buffer) => *kept = Call::Close(buffer),
             Instruction::Recv(buffer, ..) => *kept = Call::Recv(buffer),
-            // It stands at none.
+            // It is at no message call.
             Instruction::Exit
             | Instruction::Yield
             | Instruction::Set(..)
@@ -147,7 +147,7 @@ impl Guest {
         }
     }
 
-    /// Does the guest's instruction, which shares nothing.
+    /// Executes the guest's instruction, which shares nothing.
     #[inline(always)]
     pub(crate) fn compute(&mut self)
         ensures { self.new ≡ computed self.old }
@@ -171,7 +171,7 @@ impl Guest {
         self.stage = GuestStage::Ended;
     }
 
-    /// Notes that a pass is done which began while this guest's thread ran.
+    /// Records that a pass is done which began while this guest's thread ran.
     #[inline(always)]
     pub(crate) fn pass(&mut self, pass: Pass)
         ensures { self.new ≡ after_pass pass self.old }
@@ -183,7 +183,7 @@ impl Guest {
         }
     }
 
-    /// Whether an effect that the guest's call has after a poll came in that poll.
+    /// Whether an effect that the guest's call has after a poll was made by that poll.
     #[inline(always)]
     pub(crate) fn awaits(&self) -> bool
         ensures { (effect : Option Effect) → (if result then effect else None) ≡ fresh_effect self.now.stage effect }
@@ -194,8 +194,8 @@ impl Guest {
         }
     }
 
-    /// Notes what a poll of the guest's call answered, where `effect` is what the call has had
-    /// after it. A message that was received lies in the effect.
+    /// Records the result of a poll of the guest's call, where `effect` is the call's effect after
+    /// the poll. A received message is in the effect.
     #[inline(always)]
     pub(crate) fn note(&mut self, effect: &Option<Effect>, answer: Option<ReplyKind>)
         ensures { self.new ≡ polled self.old effect.now (answer_with effect.now answer) }
@@ -207,8 +207,8 @@ impl Guest {
         }
     }
 
-    /// Moves on after a reply of this kind, where `effect` is what the call has had. It stands out of line,
-    /// since few polls reply.
+    /// Continues after a reply of this kind, where `effect` is the call's effect. It is not
+    /// inlined, because few polls reply.
     #[inline(never)]
     fn take_reply(&mut self, kind: ReplyKind, effect: &Option<Effect>)
         ensures { self.new ≡ polled self.old effect.now (Some (reply_with kind effect.now)) }

@@ -1,5 +1,5 @@
-//! What holds of the step table. Each law is the contract of a function that does nothing, so that
-//! the law is proved with the crate.
+//! The theorems on the step table. Each law is the contract of a function that does nothing, so
+//! that the law is proved with the crate.
 
 ghost use Rattle.cpu.specs.{Linear.LinearRunsKeepRealTime, Table.{Worked.{AloneRuns, RunsOfTwo, RunsOfThree}, Closing.ClosingRuns, Words.RunsOfWords}};
 ghost use Rattle.cpu.specs.{Tower.Views.TablesAgree};
@@ -12,126 +12,132 @@ pub fn runs_alone()
     ensures { AloneRuns }
 {}
 
-/// Worked runs of a receiver and a sender, by computation: a wait, the signal that ends it, and the
-/// missed looks of a CPU that waits for another one.
+/// Worked runs of a receiver and a sender, by computation. They show a wait, the signal that ends
+/// it, and the failed polls of a CPU that waits for another one.
 pub fn runs_of_two()
     ensures { RunsOfTwo }
 {}
 
-/// Worked runs of three threads, by computation: the second signal of a call, a lock that passes to
-/// its first sleeper, and a line that is served in its order.
+/// Worked runs of three threads, by computation. They show the second signal of a call, a lock that
+/// passes to its first sleeper, and a wait queue that is served first in, first out.
 pub fn runs_of_three()
     ensures { RunsOfThree }
 {}
 
-/// Worked runs of systems whose buffer is closed, by computation: whom a close wakes, what each call
-/// then finds, and where it goes on.
+/// Worked runs of systems whose buffer is closed, by computation. They show which threads a close
+/// wakes, what each call then finds, and where it continues.
 pub fn runs_of_closing()
     ensures { ClosingRuns }
 {}
 
-/// A worked run of messages of several words, by computation: what a message of the first registers
-/// leaves in all of them once it is received again.
+/// A worked run of messages of several words, by computation. It shows what a message sent from the
+/// first registers leaves in all of them after it is received again.
 pub fn runs_of_words()
     ensures { RunsOfWords }
 {}
 
-/// Where the sections of a buffer come in the order of their calls, no wake-up is lost: while
-/// nobody owns the lock, the first of neither line sleeps although the buffer allows its call.
+/// No lost wake-up, for one buffer whose sections occur in the order that their calls prescribe.
+/// While no thread owns the lock, the first thread of neither wait queue sleeps in a call that the
+/// buffer allows.
 pub fn order_loses_no_wake_up()
     ensures { OrderLosesNoWakeUp }
 {}
 
-/// The classic bug: where a receiver signals the senders alone, a second receiver sleeps on beside
-/// a message that nobody else is to take.
+/// The classic bug: if a receiver signals only the senders, a second receiver sleeps on beside a
+/// message that no other thread will take.
 pub fn one_signal_loses_a_wake_up()
     ensures { OneSignalLosesAWakeUp }
 {}
 
-/// Where a receiver that finds its buffer closed signals nobody, a second receiver sleeps on beside
+/// If a receiver that finds its buffer closed signals no thread, a second receiver sleeps on beside
 /// the closed buffer.
 pub fn silent_answer_loses_a_wake_up()
     ensures { SilentAnswerLosesAWakeUp }
 {}
 
-/// Whichever CPU of a system steps when, the sections of each buffer come in the order of their
-/// calls.
+/// Under every schedule of a system, the sections of each buffer occur in the order that their
+/// calls prescribe.
 pub fn systems_keep_order()
     ensures { SystemsKeepOrder }
 {}
 
-/// No state that a system reaches has lost a wake-up: while nobody owns the lock of a buffer, the
-/// first of neither line sleeps although the buffer allows its call.
+/// No lost wake-up, in every state that a system reaches. While no thread owns the lock of a
+/// buffer, the first thread of neither wait queue sleeps in a call that the buffer allows.
 pub fn systems_lose_no_wake_up()
     ensures { SystemsLoseNoWakeUp }
 {}
 
-/// In every state that a system reaches nobody sleeps at a lock that nobody owns.
+/// In every state that a system reaches, no thread sleeps at a lock that no thread owns.
 pub fn free_locks_have_no_sleepers()
     ensures { FreeLocksHaveNoSleepers }
 {}
 
-/// CPUs that each work by the table on one list of actions lose no wake-up, however their actions
-/// come between one another.
+/// CPUs that each work according to the table on one list of actions lose no wake-up, however their
+/// actions interleave.
 pub fn cpus_lose_no_wake_up()
     ensures { CpusLoseNoWakeUp }
 {}
 
-/// CPUs that each worked by the table along one list of actions, however their actions come between
-/// one another, have done what one system of the table does under some schedule: it leaves the same
-/// list, and each CPU where it stands. So what threads do is what a run does.
+/// Simulation. CPUs each work according to the table along one list of actions, in which their
+/// actions interleave arbitrarily. Under some schedule one system of the table leaves the same
+/// list, and each CPU in the same state. Therefore what threads do is what a run does.
 pub fn work_is_a_run()
     ensures { WorkIsARun }
 {}
 
-/// A quiet state that a system reaches is stuck: nobody owns a lock or sleeps at one, and each live
-/// thread is inside a call that its buffer refuses, so that no schedule moves it on. Nobody stands
-/// at a close, or waits at a closed buffer.
+/// In a quiescent state that a system reaches, no thread can make progress. No thread owns a lock
+/// or sleeps at one. Each live thread is inside a call that its buffer does not allow, and no
+/// schedule continues it. No thread is at a close, or waits at a closed buffer.
 pub fn quiet_is_stuck()
     ensures { QuietIsStuck }
 {}
 
-/// A call on free locks that its buffer allows, with nobody in its line, takes effect and returns
-/// after an exact number of steps of its CPU alone. A send or a receive takes 18, or 21 where it
-/// wakes a thread of another CPU: the first of the other side's line, where that waits; one that
-/// finds its buffer closed takes 18. A close takes 15, or 18 where it wakes a thread of another CPU,
-/// and 21 only where a buffer without room lets it wake two. One step before it is still under way.
+/// The number of steps of a call without contention. No spin lock is held or requested. No thread
+/// owns the call's buffer, which allows the call, and the call's wait queue is empty. If no other
+/// CPU steps, the call takes effect and returns after exactly so many steps of its CPU. One step
+/// earlier it is still under way.
+///
+/// - A send or a receive takes 18 steps, or 21 if it wakes a thread of another CPU. It wakes the
+///   first of the other side's wait queue, if that thread waits. One that finds its buffer closed
+///   takes 18.
+/// - A close takes 15 steps, or 18 if it wakes a thread of another CPU. It takes 21 only if it
+///   wakes two, for which the buffer must have capacity 0.
 pub fn calls_return_alone()
     ensures { CallsReturnAlone }
 {}
 
-/// In every state that a system reaches each live thread has one place: it runs, is ready, in a hand,
-/// pending, asleep at a lock or waiting at a buffer, and only one of these.
+/// In every state that a system reaches, each live thread has exactly one place. It runs, is ready,
+/// in a hand, pending, asleep at a lock or waiting at a buffer.
 pub fn stand_in_one_place()
     ensures { StandInOnePlace }
 {}
 
-/// The premises of the laws on quiet systems and on calls alone are met by states that systems reach,
-/// and the numbers of steps are exact.
+/// States that systems reach meet the premises of the laws on quiescent systems and on uncontended
+/// calls, and the numbers of steps are exact.
 pub fn premises_are_met()
     ensures { PremisesAreMet }
 {}
 
-/// Message calls are linearizable by the steps of a schedule: a call that has returned when another one
-/// begins comes before it.
+/// Real-time order: a call that has returned when another one begins precedes it in the
+/// linearization. Time is counted in steps of the schedule.
 pub fn linear_runs_keep_real_time()
     ensures { LinearRunsKeepRealTime }
 {}
 
-/// The layers' sections are the table's: each has one name there, and the blocks that they leave and
-/// their answers are seen as the table's, of every section on every block.
+/// The layers' sections are the table's, and each has one name there. For every section on every
+/// block, the view of the block that it leaves and of its result is the table's.
 pub fn tables_agree()
     ensures { TablesAgree }
 {}
 
-/// The plan of every poll of a begun call is a line of the table: it asks for the table's section,
-/// and makes of each answer what the table makes of it.
+/// The plan of every poll of a begun call is a row of the table. It requests the table's section,
+/// and makes of each result what the table makes of it.
 pub fn plans_are_lines()
     ensures { PlansAreLines }
 {}
 
-/// A step of the table answers that its CPU is halted exactly where the private state tells it and
-/// no section is under way.
+/// A step of the table reports that its CPU is halted exactly if the CPU's private state says so
+/// and no section is under way.
 pub fn halts_exactly()
     ensures { HaltsExactly }
 {}

@@ -1,6 +1,7 @@
-//! One CPU's step table: which section a CPU does next, what each section makes of the block that it
-//! finds, and what its answer makes of the CPU's private state. From it follow that no wake-up is
-//! lost, that a quiet system is stuck, and how many steps a call takes alone.
+//! The step table of one CPU. It determines which section the CPU performs next, what each section
+//! makes of its block, and what the section's result makes of the CPU's private state. It implies
+//! that no wake-up is lost, and that in a quiescent system no thread can make progress. It also
+//! determines how many steps a call takes while only its CPU steps.
 //!
 //! A plan is run for 21 steps of CPU 0; `I` is the top of the layers:
 //!

@@ -1,5 +1,5 @@
-//! The whole system: a machine of message calls and its CPUs. Only the calls that open a system
-//! take memory. No call waits.
+//! The whole system: a machine of message calls and its CPUs. Only the functions that open a system
+//! allocate. None blocks.
 
 mod calm;
 mod opening;
@@ -17,12 +17,13 @@ pub use plans::{guests_of, homes_of};
 use std::marker::Model;
 use thiserror::Error;
 
-/// The schedule names a CPU that the system has not. Nothing changed.
+/// The schedule names a CPU that the system does not have. Nothing changed.
 #[derive(Clone, Copy, Debug, PartialEq, Eq, Error)]
 #[error("BadCpu(4)")]
 pub struct BadCpu;
 
-/// A machine and its CPUs, after the steps that were taken. No call after it is opened takes memory.
+/// A machine and its CPUs, after the steps that were taken. It allocates nothing after it is
+/// opened.
 #[derive(Drop)]
 pub struct System<I: Owned + Drop>
 where
@@ -76,10 +77,10 @@ where
 
     /// Takes one step of `cpu`: one local action or one atomic action.
     ///
-    /// `Halted` where it took none, and then nothing changed: `AllEnded` where each home thread of
-    /// the CPU has ended, `TraceFull` where its thread is about to begin a call that its trace has
-    /// no room for, and otherwise `StepsUsed` where the system's room is used. Neither of the first
-    /// two comes while the CPU has a section under way.
+    /// Returns `Halted` if it took none, and then nothing changed. The reason is `AllEnded` if each
+    /// home thread of the CPU has ended, and `TraceFull` if the trace has no room for the call that
+    /// its thread is about to begin. Otherwise it is `StepsUsed` if the system's room is used.
+    /// Neither of the first two occurs while the CPU has a section under way.
     ///
     /// Requires: the system has a CPU of this number.
     #[inline(always)]
@@ -88,19 +89,19 @@ where
         ensures answer { result ≡ step_answer (reason_of cpu self.old) }
         ensures still { (r : Reason) → result ≡ Halted r → self.new ≡ self.old }
         ensures counted { result ≡ Stepped → self.new.taken ≡ self.old.taken + 1 }
-        // The calls so far stay in their order. Behind them comes at most one, and it is of `cpu`.
+        // The calls so far keep their order. At most one follows them, and it is a call of `cpu`.
         ensures calls { CallsGoOn cpu self.old self.new }
         ensures plan { SamePlan self.old self.new }
-        // Each step that is taken is the one of the step table.
+        // A step that is taken is the step of the step table.
         ensures steps { I.IsStepwise → result ≡ Stepped → SteppedByTable cpu self.old self.new Stepped }
-        // And where none is taken, the step table takes none for the same reason.
+        // If none is taken, the step table takes none for the same reason.
         ensures halts { I.IsStepwise → (r : Reason) → result ≡ Halted r → SteppedByTable cpu self.old self.new (Halted r) }
-        // The step table reaches the system, no wake-up is lost, and the system tells what the
-        // table has.
+        // The step table reaches the system, no wake-up is lost, and the system shows the table's
+        // state.
         ensures sound { I.IsStepwise → SoundByTable self.new }
         ensures observed { I.IsStepwise → ObservedByTable self.new }
 
-        // What holds after every list of steps.
+        // This holds after every list of steps.
         ensures one_order { HasOneOrder self.new }
         ensures follow { FollowPrograms self.new }
         ensures stay { StayHome self.new }
@@ -133,8 +134,8 @@ where
         None
     }
 
-    /// Why `cpu` takes no step whatever room the system has: `AllEnded` or `TraceFull`, and neither
-    /// while it has a section under way.
+    /// Why `cpu` takes no step, whatever room the system has: `AllEnded` or `TraceFull`, and
+    /// neither while a section of the CPU is under way.
     ///
     /// Requires: the system has a CPU of this number.
     #[inline(always)]
@@ -149,21 +150,21 @@ where
 
     /// Takes one step of each CPU in `steps`, in their order. The steps of halted CPUs do nothing.
     ///
-    /// Errors: `BadCpu` where a number is no CPU of the system; then nothing changed.
+    /// Errors: `BadCpu` if a number is no CPU of the system; then nothing changed.
     pub fn run(&mut self, steps: &[CpuId]) -> Result<(), BadCpu>
         ensures kept { OnErr result (self.new ≡ self.old) }
         ensures known { IsOk result ↔ All (λ c. c.0 < length self.old.cpus) steps.now }
         ensures ran { OnOk result (Ran I.IsStepwise self.old steps.now self.new) }
-        // Each call takes effect in one step, behind all that did before.
+        // Linearizability: each call takes effect in one step, after all that took effect before.
         ensures linear { OnOk result (IsLinearizable self.old steps.now self.new) }
         // The schedule is run by the step table, which reaches the system; no wake-up is lost, and
-        // the system tells what the table has.
+        // the system shows the table's state.
         ensures table { OnOk result (I.IsStepwise → RanByTable self.old steps.now self.new) }
         ensures sound { I.IsStepwise → SoundByTable self.new }
         ensures observed { I.IsStepwise → ObservedByTable self.new }
         ensures plan { SamePlan self.old self.new }
 
-        // What holds after every list of steps.
+        // This holds after every list of steps.
         ensures one_order { HasOneOrder self.new }
         ensures follow { FollowPrograms self.new }
         ensures stay { StayHome self.new }
@@ -182,9 +183,10 @@ where
         Ok(())
     }
 
-    /// Takes the steps at the front of `steps` that are all of one CPU, as far as they go at once: none of a
-    /// CPU that is halted does anything; else they go on until it is halted or a look at a lock misses, and
-    /// each that follows such a look is one too. Returns how many it took.
+    /// Takes a prefix of `steps` whose steps are all of one CPU. The steps of a halted CPU do
+    /// nothing. Any other CPU continues until it is halted or a poll of a lock fails. After a
+    /// failed poll its next polls must fail too, and are taken in bulk. Returns how many steps it
+    /// took.
     ///
     /// Requires: there is a step, and the system has a CPU of each number.
     #[inline(always)]
@@ -210,8 +212,8 @@ where
         taken + looks
     }
 
-    /// What `buffer` holds, front first. A block that a CPU has in its hands counts as it was when
-    /// its lock was freed last.
+    /// What `buffer` holds, head first. A block that a CPU has in its hands counts as it was when
+    /// its lock was last released.
     ///
     /// Requires: the system has a buffer of this number.
     pub fn buffer(&self, buffer: BufId) -> ArrayVec<Msg, CAPACITY>
@@ -230,7 +232,7 @@ where
     }
 
     /// Whether a call has closed `buffer`. A block that a CPU has in its hands counts as it was
-    /// when its lock was freed last.
+    /// when its lock was last released.
     ///
     /// Requires: the system has a buffer of this number.
     pub fn is_closed(&self, buffer: BufId) -> bool
@@ -249,7 +251,7 @@ where
     }
 
     /// The thread that owns the lock of `buffer`. A block that a CPU has in its hands counts as it
-    /// was when its lock was freed last.
+    /// was when its lock was last released.
     ///
     /// Requires: the system has a buffer of this number.
     pub fn busy(&self, buffer: BufId) -> Option<Tid>
@@ -267,8 +269,8 @@ where
         None
     }
 
-    /// Where `thread` stands. A block that a CPU has in its hands counts as it was when its lock
-    /// was freed last.
+    /// The place of `thread`: where it runs, waits or sleeps. A block that a CPU has in its hands
+    /// counts as it was when its lock was last released.
     ///
     /// Requires: the system has a thread of this number.
     pub fn place(&self, thread: Tid) -> Place
@@ -281,7 +283,7 @@ where
         }
     }
 
-    /// Where `thread` stands, asked of each CPU.
+    /// The place of `thread`, asked of each CPU.
     ///
     /// Requires: the system has a thread of this number.
     fn place_anywhere(&self, thread: Tid) -> Place
@@ -297,7 +299,7 @@ where
         Place::Ended
     }
 
-    /// Where `thread` stands, as far as its home CPU can tell. Most threads stand there.
+    /// The place of `thread`, asked only of its home CPU, which knows it of most threads.
     ///
     /// Requires: the system has a thread of this number.
     fn place_at_home(&self, thread: Tid) -> Option<Place>
@@ -339,8 +341,8 @@ where
         self.threads
     }
 
-    /// The machine beneath: it is the one whose capacities, homes, contents, waiting lists, owners,
-    /// moves and actions the system shows, and nobody else acts in it.
+    /// The underlying machine. It is the one whose capacities, home CPUs, contents, wait lists,
+    /// owners, moves and actions the system shows, and no other holder acts in it.
     pub fn machine(&self) -> &I::Machine
         ensures acts { (c : CpuId) → c.0 < CPUS → I.ActsFor result.now c }
         ensures shows { self.now ≡ shown_of (caps_in (I.opening result.now)) (homes_in (I.opening result.now)) (I.seen result.now) (I.wait_lists result.now)
@@ -349,7 +351,7 @@ where
         &self.machine
     }
 
-    /// What holds of every system, whatever steps were taken.
+    /// The invariant of every system, whatever steps were taken.
     pub fn holds(&self)
         ensures sound { I.IsStepwise → SoundByTable self.now }
         ensures agree { MovesAgree self.now }
@@ -362,12 +364,18 @@ where
         let _ = &self.room;
     }
 
-    /// A law of every system over layers whose polls are single actions. Where a thread stands at a
-    /// call that has not begun, on a free lock, with nobody in its line, and its buffer allows it,
-    /// the call returns after just 18 steps of its CPU alone, or 21 where the first of the other
-    /// side's line waits and is of another CPU, which the call's first signal then wakes. A call that
-    /// finds its buffer closed wakes nobody, and returns after 18. A close returns after 15, or 18
-    /// where it wakes a thread of another CPU. It computes nothing.
+    /// A law of every system over layers whose polls are single actions. It computes nothing.
+    ///
+    /// A thread runs on a CPU that is not halted, at a call that has not begun. No spin lock is
+    /// held or requested. No thread owns the call's buffer, which allows the call, and the call's
+    /// wait queue is empty. The system has room for 32 more steps. While only this CPU steps, the
+    /// call returns after an exact number of steps:
+    ///
+    /// - A send or a receive takes 18, or 21 if the first of the other side's wait queue waits and
+    ///   is of another CPU. The call's first signal wakes that thread.
+    /// - A call that finds its buffer closed wakes no thread, and takes 18.
+    /// - A close takes 15, or 18 if it wakes a thread of another CPU. It takes 21 only if it wakes
+    ///   two, for which the buffer must have capacity 0.
     pub fn alone(&self)
         ensures { I.IsStepwise → ReturnsAlone self.now }
     {
@@ -375,8 +383,8 @@ where
     }
 }
 
-/// How many of the steps at the front of `steps` are those of `cpu`. The next one is asked first, as a turn
-/// is often one step.
+/// How many of the steps at the front of `steps` are those of `cpu`. The next step is compared
+/// first, because a turn is often one step.
 #[inline(always)]
 fn steps_behind(cpu: CpuId, steps: &[CpuId]) -> usize
     ensures { BeginWith cpu result steps.now }
@@ -387,8 +395,8 @@ fn steps_behind(cpu: CpuId, steps: &[CpuId]) -> usize
     }
 }
 
-/// Whether each of these CPUs has a number below this one: told by the greatest of them, which is
-/// found without a branch for each.
+/// Whether each of these CPUs has a number below this one. Only the greatest of them is compared,
+/// which is found without a branch for each.
 fn are_below(cpus: &[CpuId], count: usize) -> bool
     ensures { (result ≡ true) ↔ All (λ c. c.0 < count) cpus.now }
 {

@@ -1,4 +1,5 @@
--- How section polls make up a poll of a call: what each leaves, the first one, another one in the same poll, and what the poll leaves after its last.
+-- How section polls make up a poll of a call: what each leaves, the first one, another one in the
+-- same poll, and what the poll leaves after its last.
 use Rattle.std.proofs.Common.{◌≡◌, ◌≢◌, Bool, true, false, List, Option, Some, ◌⊎◌, None, refl, ap, sym, subst, arith, length, IsSome, is_some, slice_set}
 use Rattle.std.proofs.{Common.{if◌then◌else◌, ◌∙◌, inl, inr, ◌++◌, option_map, option_to_list}, lemmas.{Bool.eqb-false, List.{get_or-set_other, length-set}}}
 use Rattle.{event_log.specs.declared.ids.{CpuId.CpuId, LockId.LockId, Tid.Tid, BufId.BufId}, layer_traits.specs.declared.buffer_edits.BufferEdit.BufferEdit}
@@ -17,7 +18,8 @@ use Rattle.fifo_buffer.{specs.Stances.{Stance, CallStateFits, called_at, asks_at
 use Rattle.fifo_buffer.proofs.{Parts.effects_over, Callers.{monitored, kernel_of}}
 use Rattle.layer_traits.specs.declared.scheds.SchedCall.TheVariants as sched
 
--- the next section of the call of t may be polled; the call's effect is that with which the poll began, and the other threads are as they were then
+-- the next section of the call of t may be polled; the call's effect is that with which the poll
+-- began, and the other threads are as they were then
 pub record IsGoing (homes : List CpuId) (O : LockId → Option BufferLock) (past : List BufferSection) (c : CpuId) (t : Tid) (call : Call)
     (own0 own : Waiting BufferOut) (call_states0 call_states : List CallState) (under_way : Option (SchedCall (CvCall BufferEdit))) : Type 0 where
   pub may : MayPollSection O past t call (going (call_state_of call_states t) call) own under_way
@@ -27,7 +29,7 @@ pub record IsGoing (homes : List CpuId) (O : LockId → Option BufferLock) (past
   pub effect : (going (call_state_of call_states t) call).effect ≡ (going (call_state_of call_states0 t) call).effect
   pub apart : (u : Tid) → u.0 ≢ t.0 → call_state_of call_states u ≡ call_state_of call_states0 u
 
--- a call that goes on at its beginning goes on to acquire its buffer's lock
+-- a call that is at its beginning continues with acquiring its buffer's lock
 pub acquires_at : {at stage : Stage} → at ≡ stage → called_at stage ≡ true → (at ≡ Idle) ⊎ (at ≡ Acquires) → Acquires ≡ stage
 acquires_at is called either = grind arith
 
@@ -44,7 +46,7 @@ module _ (O : LockId → Option BufferLock) (past : List BufferSection) (t : Tid
     waits_here = tt;
   })
 
-  -- what a call state that fits is to the call that goes on
+  -- what a call state that agrees with what was done implies for the call that continues
   going_fits : (call_state : CallState) (slept waits : Option BufId) (of : Option Call) → call_state.call ≡ of
       → CallStateFits O past t of slept waits call_state → MayPollCall call_state call
       → ((going call_state call).call ≡ Some call) × InCall O past t call slept waits (going call_state call).stage (going call_state call).position
@@ -57,7 +59,7 @@ module _ (O : LockId → Option BufferLock) (past : List BufferSection) (t : Tid
       )
   going_fits call_state slept waits (Some k) is fits may = grind arith
 
--- a call that goes on is begun
+-- a call that continues has begun
 pub goes_called : (O : LockId → Option BufferLock) (past : List BufferSection) (t : Tid) (k : Call) (call_state : CallState) (own : Waiting BufferOut)
     (w : Option (SchedCall (CvCall BufferEdit))) → SectionGoes O past t k call_state own w → called_at call_state.stage ≡ true
 goes_called O past t k call_state own w goes = grind arith
@@ -79,7 +81,7 @@ first_may homes c O past own call_states (Some (sched.Pass p)) None t call home 
 first_may homes c O past own call_states (Some (sched.OnBuffer b e)) None t call home fits runs hand call_state_may may = absurd fits.none
 first_may homes c O past own call_states under_way (Some v) t call home fits runs hand call_state_may may = grind (arith, goes_called)
 
--- a call state of another thread stays where this one's is kept
+-- a call state of another thread stays if this one's is kept
 pub other_call_state : (call_states now : List CallState) (t u : Tid) (x : CallState) → now ≡ slice_set call_states t.0 x → same_tid t u ≡ false
     → call_state_of now u ≡ call_state_of call_states u
 other_call_state call_states now t u x is other = grind (arith, get_or-set_other, eqb-false)
@@ -88,7 +90,7 @@ pub apart_call_state : (call_states now : List CallState) (t u : Tid) (x : CallS
     → call_state_of now u ≡ call_state_of call_states u
 apart_call_state call_states now t u x is other = ap (λ l. call_state_of l u) is ∙ get_or-set_other call_states t.0 u.0 x no_call other
 
--- the marks of a thread whose call goes on are those of its stage
+-- the marks of a thread whose call continues are those of its stage
 abbrev pub MarksOf : Tid → Stage → Waiting BufferOut → Type 0
 MarksOf t stage own = (is_some (slept_for own.lock.slept t) ≡ true → asks_at stage ≡ true) × (is_some (slept_for own.waits t) ≡ true → waits_at stage ≡ true)
 
@@ -112,11 +114,11 @@ module _ {homes : List CpuId} {ActsFor : CpuId → Type 0} {O : LockId → Optio
     pub next_may : MayPollSection O (buffer_sections new) t call later left under_way
     next_may = grind arith
 
-    -- so the call state goes on as it is
+    -- so the call state stays as it is
     pub next_going : going later call ≡ later
     next_going = grind arith
 
-    -- why nothing was done beneath
+    -- why nothing was done below
     pub why_nothing_done : own.lock.sleep.threads.current ≡ Some t → handed ≡ is_handed own.lock.slept own.lock.sleep.threads.current
         → (IsSome (slept_for own.waits t)) ⊎ (IsSome (slept_for own.lock.slept t))
     why_nothing_done runs is_handed_so = grind arith
@@ -126,7 +128,7 @@ module _ {homes : List CpuId} {ActsFor : CpuId → Type 0} {O : LockId → Optio
       → answer ≡ (if done then replied call call_state call_state.stage else None)
   completes_as stage is answer told = grind arith
 
-  -- where one section poll was all, the thread neither slept for the lock nor waited
+  -- if one section poll was all, the thread neither slept for the lock nor waited
   pub exit_free : (handed : Bool) → MarksOf t call_state.stage own → ((done ≡ true) × (is_at_once call_state.stage handed ≡ false)) ⊎ (done ≡ false)
       → own.lock.sleep.threads.current ≡ Some t → handed ≡ is_handed own.lock.slept own.lock.sleep.threads.current
       → (slept_for own.lock.slept t ≡ None) × (slept_for own.waits t ≡ None)
@@ -136,13 +138,13 @@ pub marks_of : (O : LockId → Option BufferLock) (past : List BufferSection) (t
     (w : Option (SchedCall (CvCall BufferEdit))) → SectionGoes O past t call call_state own w → MarksOf t call_state.stage own
 marks_of O past t call call_state own w goes = grind arith
 
--- where another section poll follows an Acquire, the thread slept for the lock
+-- if another section poll follows an Acquire, the thread slept for the lock
 pub why_slept : (t : Tid) (stage : Stage) (own : Waiting BufferOut) (handed : Bool) → is_at_once stage handed ≡ true → MarksOf t stage own
     → own.lock.sleep.threads.current ≡ Some t → handed ≡ is_handed own.lock.slept own.lock.sleep.threads.current → waits_at stage ≡ false
     → (slept_for own.waits t ≡ None) × (is_some (slept_for own.lock.slept t) ≡ true)
 why_slept t stage own handed once marks runs handed_is no_wait = grind arith
 
--- the call goes on after a section, but for the last one, after which it answers
+-- the call continues after a section, except the last one, after which it returns
 abbrev pub GoesOrEnds : CallState → Call → Stage → QOut (CvOut BufferOut) → Type 0
 GoesOrEnds call_state call stage out =
     ((replied call call_state stage ≡ None) × ((recorded call_state stage out).call ≡ Some call))
@@ -182,7 +184,7 @@ module _ {homes : List CpuId} {ActsFor : CpuId → Type 0} {O : LockId → Optio
   abbrev FitAfter : Option Reply → Type 0
   FitAfter answer = Fit (calling_after t left.lock.sleep.threads.current answer)
 
-  -- the call goes on after its section
+  -- the call continues after its section
   call_on : (after : Ended O (buffer_sections new) t call_state left under_way later)
       → (recorded call_state call_state.stage after.recorded_is.0).call ≡ Some call
       → (later.call ≡ Some call) × InCall O (buffer_sections new) t call (slept_for left.lock.slept t) (slept_for left.waits t) later.stage later.position
@@ -246,7 +248,7 @@ module _ {homes : List CpuId} {ActsFor : CpuId → Type 0} {O : LockId → Optio
                 others = others;
               })
 
-  -- the effects, and the answer
+  -- the effects, and the result
   pub called_by : (Acts : CpuId → Type 0) → ((d : CpuId) → Acts d → ActsFor d) → (first : List CallState)
       → call_state.effect ≡ (going (call_state_of first t) call).effect → ((u : Tid) → u.0 ≢ t.0 → call_state_of now u ≡ call_state_of first u)
       → called_at call_state.stage ≡ true → (answer : Option Reply) → answer ≡ (if done then replied call call_state call_state.stage else None)
@@ -280,7 +282,7 @@ module _ {homes : List CpuId} {ActsFor : CpuId → Type 0} {O : LockId → Optio
               rw (is ∙ goes.0, own_call_state) (begun_there later.stage later.call on.1.called ∙ on.0)
           by_stage (inr ends) = rw (is ∙ ends.2, own_call_state ∙ after.recorded_is.1) (ends.3, (ends.0, ends.5 ∙ ends.1, refl))
 
--- what a section poll leaves is what its plan makes of the poll's answer
+-- what a section poll leaves is what its plan makes of the poll's result
 pub recorded_left : (t : Tid) (call : Call) (call_state : CallState) (call_states now : List CallState) (stage : Stage) (cv : Waiting BufferOut)
     (answer : Option BufferOutcome) (done : Bool)
     → done ≡ is_some answer → now ≡ slice_set call_states t.0 (recorded_if call_state stage answer)

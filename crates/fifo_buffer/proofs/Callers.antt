@@ -1,4 +1,5 @@
--- A thread that runs on a CPU and whose call takes a section poll there: its CPU's part and the log before the section poll.
+-- A thread that runs on a CPU and whose call takes a section poll there: its CPU's part and the log
+-- before the section poll.
 use Rattle.std.proofs.Common.{◌≡◌, ◌<◌, List, length, Option, Some}
 use Rattle.{fifo_buffer.specs.SectionPolls.{BufferOutcome, BufferEvent}, layer_traits.specs.Blocks.BufferBlocks.BufferState}
 use Rattle.layer_traits.specs.{Blocks.{BufferProtocol.{buffer_monitor_rules, BufferLock}, QueueBlocks.homes_in}, Layers.QLockLaw.lock_kernel}
@@ -7,7 +8,8 @@ use Rattle.layer_traits.specs.declared.{conditions.{CvOut.CvOut, CvLeave.CvLeave
 use Rattle.{layer_traits.specs.{declared.{calls.Call.Call, queue_edits.QueueBlock.QueueBlock}, Threads.Places.home_of}, event_log.specs.History.IsLawful}
 use Rattle.event_log.specs.declared.ids.{CpuId.CpuId, LockId.LockId, Tid.Tid, TheConstants.THREADS}
 
--- what the calls of the conditions mean with the protocol of buffers, and which events a machine allows that opened so
+-- what the calls of the conditions mean with the protocol of buffers, and which events a machine
+-- allows that opened so
 abbrev pub monitored : LockRules (CvEdit BufferEdit) CvLeave BufferState (CvOut BufferOut)
 monitored = cv_rules buffer_monitor_rules
 

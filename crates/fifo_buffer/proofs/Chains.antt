@@ -1,4 +1,4 @@
--- A poll of a call follows its plan: one section poll, or two where the first did nothing beneath.
+-- A poll of a call follows its plan: one section poll, or two if the first did nothing below.
 use Rattle.std.proofs.Common.{◌≡◌, Bool, true, false, List, Option, Some, None, is_some, arith}
 use Rattle.event_log.specs.{declared.ids.{CpuId.CpuId, LockId.LockId, Tid.Tid}, Actions.Action}
 use Rattle.layer_traits.specs.declared.{buffer_edits.{BufferEdit.BufferEdit, BufferOut.BufferOut}, calls.{Call.Call, Reply.Reply}, conditions.CvOut.CvOut}
@@ -12,7 +12,7 @@ use Rattle.fifo_buffer.{specs.{Stances.{called_at, waits_at}, SectionPolls.{Buff
 some_of : {A : Type 0} (x : Option A) → is_some x ≡ true → (a : A) × (x ≡ Some a)
 some_of x is = grind arith
 
--- a plan that acts, and one that answers without an action
+-- a plan that acts, and one that returns without an action
 abbrev pub IsAct : {N R S A : Type 0} → Plan N R S A → Type 0
 IsAct (Now left) = ⊥
 IsAct (Act lock name react) = Unit {0}
@@ -28,11 +28,11 @@ module _ (homes : List CpuId) (c : CpuId) (t : Tid) (call : Call) (stage : Stage
       → IsAct (sched_plan (lock_moves buffer_rules) homes c (due hand (buffer_of call) (section_at t call stage)) own.lock.sleep.threads)
   sched_acts hand = grind arith
 
-  -- the plan beneath, of a thread that neither sleeps for the lock nor waits
+  -- the plan of the layer below, for a thread that neither sleeps for the lock nor waits
   pub beneath_acts : slept_for own.lock.slept t ≡ None → slept_for own.waits t ≡ None → IsAct (plan_beneath homes c t call stage own)
   beneath_acts slept waits = grind (arith, same_caller, act_raised, sched_acts)
 
--- a plan that acts goes on to nothing
+-- a plan that acts is followed by nothing
 chained_act : {N B R S T A Q : Type 0} (ActsFor : CpuId → Type 0) (table : Table N B R) (opening : LockId → Option B) (cpu : CpuId) (next : T → Plan N R T Q)
     (f : Left S A → Left T Q) (plan : Plan N R S A) (old new : List (Action N)) (got : Left T Q) → IsAct plan
     → Follows ActsFor table opening cpu (raised f plan) old new got → Follows ActsFor table opening cpu (chained next f plan) old new got
@@ -52,7 +52,7 @@ module _ {B : Type 0} (ActsFor : CpuId → Type 0) (table : Table (QueueEdit (Cv
   one_follows AcquiresAgain call_state own old new got called slept waits follows = grind (arith, chained_act, beneath_acts)
   one_follows other call_state own old new got called slept waits follows = follows
 
-  -- the plan beneath, where it answers without an action
+  -- the plan of the layer below, if it returns without an action
   abbrev Answers : Plan (QueueEdit (CvCall BufferEdit)) (QueueAnswer BufferOutcome) (Waiting BufferOut) BufferOutcome → Type 0
   Answers plan = (left : Left (Waiting BufferOut) BufferOutcome) × (plan ≡ Now left) × (is_some left.answer ≡ true)
 

@@ -1,4 +1,5 @@
--- One poll of the conditions, for a call: who was woken out of its wait, who was handed the lock, and whose section went on.
+-- One poll of the conditions, for a call: which thread was woken from its wait, which was handed
+-- the lock, and which section continued.
 use Rattle.std.proofs.Common.{ℕ, ◌≡◌, true, false, List, [], length, Option, Some, None, IsSome, is_some, slice_set, refl, ap, sym, ◌∙◌, subst, arith}
 use Rattle.std.proofs.lemmas.List.{length-set}
 use Rattle.fifo_buffer.proofs.{Callers.{monitored, kernel_of, AreLawful, Caller}, OtherSteps.caller_is, Polls.{lock_section_poll, other_mark, own_mark}}
@@ -15,7 +16,7 @@ use Rattle.{layer_traits.specs.Polling.Plans.Left, thread_blocks.specs.Queues.{s
 use Rattle.layer_traits.specs.declared.conditions.CvOut.TheVariants as answer
 use Rattle.layer_traits.specs.declared.moves.WaitList.TheVariants as line
 
--- a thread that was woken out of its wait asks for the lock again
+-- a thread that was woken from its wait acquires the lock again
 waited_on : (O : LockId → Option BufferLock) (past : List BufferSection) (t : Tid) (call : Call) (at : BufId) (slept : Option BufId)
     (stage : Stage) (position : ℕ) (effect : Option Effect)
     → InCall O past t call slept (Some at) stage position effect
@@ -55,7 +56,7 @@ module _ (caller : Caller) (new : List BufferEvent) (stage : Stage) (position : 
   abbrev Begins : Type 0
   Begins = SectionBegins O (buffer_sections old) t call call_state own
 
-  -- a poll that does nothing but answer, and leaves these marks
+  -- a poll that only returns a result, and leaves these marks
   at_once_section : (slept waits : List (Option BufId)) (out : QOut (CvOut BufferOut)) (got : Left (Waiting BufferOut) BufferOutcome)
       (under_way : Option (SchedCall (CvCall BufferEdit))) → got ≡ record {
         own = record { lock = record { sleep = own.lock.sleep; slept = slept }; waits = waits };

@@ -1,4 +1,5 @@
--- A line's counter counts the threads that entered it; and the calls of one side take effect in the order in which their threads joined its line.
+-- A line's counter counts the threads that entered it; and the calls of one side take effect in the
+-- order in which their threads joined its line.
 use Rattle.std.proofs.Common.{ℕ, ◌≡◌, ◌+◌, ◌<◌, ◌%◌, ◌^◌, Bool, true, false, not, ◌&&◌, List, [], ◌∷◌, length, Option, Some, option_map, if◌then◌else◌, get_or}
 use Rattle.std.proofs.{Common.{refl, ap, sym, ◌∙◌, arith, lt-ltb, ◌++◌, None, subst, append_assoc, option_to_list}, lemmas.Option.slice_get_within}
 use Rattle.std.{proofs.lemmas.Option.{slice_get-get_or, same_Some}, specs.Prelude.{◌==◌}}
@@ -24,7 +25,8 @@ more v n = if v then counted n else n
 pub joins_now : (t : Tid) (queue : List Tid) → t.0 < THREADS → is_in t queue ≡ false → may_join t queue ≡ true
 joins_now t queue small out = ap (λ v. v && not (is_in t queue)) (lt-ltb t.0 THREADS small) ∙ ap not out
 
--- a section counts a thread that enters, which may join: it is one of the machine's and stands in neither line
+-- a section counts a thread that enters, which may enter: it is one of the machine's and in neither
+-- line
 section_counts : (side : Side) (O : LockId → Option BufferLock) (past : List BufferSection) (d : BufId) (call : CvCall BufferEdit) (lock : BufferLock)
     → buffer_lock_at O past (Buffer d) ≡ Some lock → IsDue O past (Buffer d) call → (lock_caller buffer_rules call).0 < THREADS
     → drawn_of side (lock_edited buffer_rules call lock).above ≡ more (enters_side side call) (drawn_of side lock.above)
@@ -35,7 +37,7 @@ counts_more v a n is = grind arith
 
 -- What a section makes of a line.
 
--- the first of a line, and those behind it
+-- the first of a line, and those after it
 first_in_line : (t : Tid) (line : List Tid) → is_first t line ≡ true → line ≡ t ∷ rest line
 first_in_line t [] first = absurd cc
 first_in_line t (u ∷ line) first = let same = same_tid_true t u first in ap (λ x. x ∷ line) (sym same)
@@ -47,7 +49,8 @@ entered_line : (side at : Side) (t : Tid) (x : BufferState)
     → line_of side (entered at t x) ≡ (if same_side side at then line_of side x ++ t ∷ [] else line_of side x)
 entered_line side at t x = grind arith
 
--- those who joined are those who were served, and then those in line; so it stays if one more joins
+-- the threads that entered are those that were served, then those in the line; so it stays if one
+-- more enters
 joins : (v : Bool) (t : Tid) (all before line : List Tid) → all ≡ before ++ line
     → (if v then all ++ t ∷ [] else all) ≡ before ++ (if v then line ++ t ∷ [] else line)
 joins true t all before line is = ap (λ l. l ++ t ∷ []) is ∙ append_assoc before line (t ∷ [])
@@ -105,7 +108,7 @@ module _ (side : Side) (b : BufId) (c : CpuId) (position : Side → Tid → ℕ)
 
 -- The history of a buffer.
 
--- effects elsewhere serve nobody of this line
+-- effects elsewhere serve no thread of this line
 elsewhere : (side : Side) (b : BufId) (d : BufId) (o : Option Entry) (es : List Entry) → same_lock (Buffer b) (Buffer d) ≡ false
     → ((e : Entry) → o ≡ Some e → e.buffer ≡ d) → served side b.0 (option_to_list o ++ es) ≡ served side b.0 es
 elsewhere side b d None es other its = refl
@@ -118,7 +121,7 @@ module _ (opening : LockId → Option (QueueBlock BufferLock)) (starts : StartsW
   abbrev Counted : List BufferSection → Type 0
   Counted past = drawn_in side (buffer_lock_at (inner opening) past (Buffer b)) ≡ entered_count side (Buffer b) past % 2 ^ 64
 
-  -- at the start nobody entered
+  -- at the start no thread has entered
   none_yet : Counted []
   none_yet =
       ap (drawn_in side) (ap (λ locks. locks (Buffer b)) boots ∙ ap (option_map fresh_lock) (slice_get-get_or (caps_in opening) b.0 0 within)) ∙ none side
@@ -151,7 +154,8 @@ module _ (opening : LockId → Option (QueueBlock BufferLock)) (starts : StartsW
           ∙ ap (count_if (buffer_sections past) call) (sym is)
       go false is = ap (drawn_if (buffer_sections past) call) is ∙ before ∙ ap (count_if (buffer_sections past) call) (sym is)
 
-  -- what each section keeps that is due, and whose caller is one of the machine's, holds after all lawful events
+  -- what each section keeps that is due, and whose caller is one of the machine's, holds after all
+  -- lawful events
   pub by_sections : (P : List BufferSection → Type 0) → P [] → ((past : List BufferEvent) (c : CpuId) (d : BufId) (call : CvCall BufferEdit)
       → IsDue (inner opening) (buffer_sections past) (Buffer d) call → (lock_caller buffer_rules call).0 < THREADS → P (buffer_sections past)
       → P (section c (Buffer d) call ∷ buffer_sections past)) → (past : List BufferEvent) → AreLawful opening past → P (buffer_sections past)
@@ -167,7 +171,7 @@ module _ (opening : LockId → Option (QueueBlock BufferLock)) (starts : StartsW
   abbrev lock_at : List BufferSection → Option BufferLock
   lock_at past = buffer_lock_at (inner opening) past (Buffer b)
 
-  -- those who joined are those who were served and then those in line
+  -- the threads that entered are those that were served, then those in the line
   IsServed : List BufferSection → Type 0
   IsServed past = (lock : BufferLock) → lock_at past ≡ Some lock
       → joiners_of side (Buffer b) past ≡ served side b.0 (effects_in (inner opening) past) ++ line_of side lock.above

@@ -1,4 +1,5 @@
--- What others leave of a thread's stance and call state: a section of another caller, and events of other CPUs; and what its stance lets it do.
+-- What others leave of a thread's stance and call state: a section of another caller, and events of
+-- other CPUs; and what its stance lets it do.
 use Rattle.std.proofs.Common.{◌≡◌, ◌≢◌, ℕ, Bool, true, false, ◌&&◌, ◌||◌, List, [], ◌∷◌, ◌++◌, Option, Some, None, option_map, is_some, if◌then◌else◌, refl, ap}
 use Rattle.std.proofs.{Common.{sym, ◌∙◌, subst, arith, rules}, lemmas.Bool.{and_parts, and_right}, Math.Bool.and-true}
 use Rattle.event_log.specs.{declared.ids.{BufId.BufId, LockId.{LockId, TheVariants.Buffer}, Tid.Tid, CpuId.CpuId}, History.{same_lock, AreOthers, same_cpu}}
@@ -144,7 +145,7 @@ module _ (O : LockId → Option BufferLock) (past : List BufferSection) (t : Tid
   not_owned None grip is = absurd (cc is)
   not_owned (Some lock) grip is = grip.0 is
 
-  -- the owner of its buffer's lock is as its section asks
+  -- the owner of its buffer's lock is as its section requires
   pub owner_due : (call : Call) (stage : Stage) (position : ℕ) (effect : Option Effect) → InCall O past t call None None stage position effect
       → IsOwners buffer_rules (section_at t call stage) (owner_in (buffer_lock_at O past (Buffer (buffer_of call))))
   owner_due call Idle position effect now = grind arith

@@ -21,7 +21,7 @@ use Rattle.event_log.specs.declared.entries.Kind.TheVariants as kind
 use Rattle.layer_traits.specs.declared.buffer_edits.BufferOut.TheVariants as told
 use Rattle.layer_traits.specs.declared.conditions.CvOut.TheVariants as answer
 
--- what a section did, where it was told this: the stance and the call state after it, and its effect
+-- what a section with this result did: the stance and the call state after it, and its effect
 pub record Stepped (opening : LockId → Option BufferLock) (past : List BufferSection) (c : CpuId) (t : Tid) (call : Call) (stage : Stage)
     (position : ℕ) (effect : Option Effect) (out : QOut (CvOut BufferOut)) : Type 0 where
   pub fits : CallStateFits opening (section c (Buffer (buffer_of call)) (section_at t call stage) ∷ past) t
@@ -86,7 +86,7 @@ module _ {opening : LockId → Option BufferLock} {past : List BufferSection} (c
         drawn_own : drawn opening (Buffer b) side t (section c (Buffer b) e ∷ past) ≡ drawn opening (Buffer b) side t past
         drawn_own = grind (arith, and_right)
 
-  -- an Acquire, where the lock was free, and where it had an owner
+  -- an Acquire, if the lock was free, and if it had an owner
   took_lock : {lined : Bool} {position : ℕ} → lock.owner ≡ None → Stance opening past t b side false false lined position
       → Stance opening (section c (Buffer b) (Acquire t) ∷ past) t b side true false lined position
   took_lock free stance =
@@ -96,7 +96,7 @@ module _ {opening : LockId → Option BufferLock} {past : List BufferSection} (c
       → Stance opening (section c (Buffer b) (Acquire t) ∷ past) t b side false true lined position
   asked_lock stance = kept_line (Acquire t) stance false true (λ grip. tt) refl (λ at. ap (λ x. count_in t (line_of at x)) (grind arith))
 
-  -- how often the thread stands in its own line
+  -- how often the thread is in its own line
   in_own_line : (holds asks lined : Bool) (position : ℕ) → Stance opening past t b side holds asks lined position
       → count_in t (line_of side lock.above) ≡ one_if lined
   in_own_line holds asks lined position stance =
@@ -210,7 +210,8 @@ module _ (opening : LockId → Option BufferLock) (past : List BufferSection) (c
       closed : Effect
       closed = record { kind = kind.Close; value = no_message; op = lock.above.effects; pos = lock.above.closes }
 
-  -- a try, of a call that enters a line: at its thread's turn it has its effect, else it was in vain
+  -- a try, of a call that enters a line: if its thread is next, it has its effect; otherwise it
+  -- fails
   tries_step : (call : Call) → EntersLine call → At call → Within call Tries → (v : Bool) → is_next (side_of call) t lock.above ≡ v
       → Steps call Tries
       (Did (answer.Did (if v then told.Done (effect_kind (side_of call) lock.above) lock.above.effects (tried_value call lock.above) else told.NotYet)))

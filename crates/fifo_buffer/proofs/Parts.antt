@@ -1,4 +1,5 @@
--- How the effects and the moves of the buffers grow with events, that a part keeps fitting over those of other CPUs, and what calls leave as it was.
+-- How the effects and the moves of the buffers grow with events, that a part keeps fitting over
+-- those of other CPUs, and what calls leave as it was.
 use Rattle.std.proofs.Common.{ℕ, ◌≡◌, ◌≢◌, Bool, false, List, [], ◌∷◌, ◌++◌, Option, Some, None, option_to_list, refl, ap, sym, ◌∙◌, subst, append_assoc, arith}
 use Rattle.std.{proofs.Common.{rules, true, is_some, if◌then◌else◌}, specs.List.AllByRecursion}
 use Rattle.fifo_buffer.{proofs.{Callers.{kernel_of, AreLawful}, OtherSteps.keeps_fits}, specs.{FifoFits.{PartFits, BootsSo}, Stances.CallStateFits}}
@@ -102,7 +103,7 @@ part_grown opening d more past new others lawful is {own} {call_states} {under_w
     subst (λ log. PartFits opening d log own call_states under_way calling) (sym is)
     (part_on opening d more past others (subst (AreLawful opening) is lawful) fits)
 
--- effects of other CPUs alone, and moves of other CPUs alone
+-- only effects of other CPUs, and only moves of other CPUs
 pub seen_grown : (ActsFor Acts : CpuId → Type 0) (O : LockId → Option BufferLock) (others old new : List BufferEvent) → ((d : CpuId) → Acts d → ActsFor d)
     → AreForeign ActsFor cpu_of_queue_event others → new ≡ others ++ old
     → OthersSeen Acts (effects_in O (buffer_sections old)) (effects_in O (buffer_sections new))
@@ -146,7 +147,8 @@ other_part opening c d apart mine others past new own_events foreign is lawful f
     part_grown opening d (mine ++ others) past new (others_both cpu_of_queue_event d mine others (own_others c d apart mine own_events) foreign) lawful
     (is ∙ sym (append_assoc mine others past)) fits
 
--- the call beneath was of a part of the same CPU, and the part agrees again; and so does each of another CPU
+-- the call below was of a part of the same CPU, and the part agrees again; and so does each part of
+-- another CPU
 pub framed_over : {P M : Type 0} (Part : Fifo P → M → Type 0) {Fits : P → M → Type 0} {cpu_of : P → CpuId}
     {opening : M → LockId → Option (QueueBlock BufferLock)} {site : M → List ℕ} {room : M → ℕ} {ActsFor MayHold : M → CpuId → Type 0} {old new : Fifo P}
     {p p' : P} {m n : M} → Framed Fits cpu_of opening site room ActsFor MayHold p p' m n → cpu_of p ≡ cpu_of old.lower → new.lower ≡ p' → Part new n
@@ -165,7 +167,7 @@ framed_over Part {cpu_of = cpu_of} framed cpu new_is part others = record {
   holders = λ c other both held. framed.holders c (rw cpu other) both.0 held;
 }
 
--- its event, where it has one, is no section of a buffer
+-- its event, if it has one, is no section of a buffer
 abbrev pub pass_events : List CpuId → CpuId → Pass → Bool → List BufferEvent
 pass_events homes c p done = if done then events_of c (pass_call homes c p) else []
 
@@ -177,7 +179,8 @@ split : (homes : List CpuId) (c : CpuId) (p : Pass) (done : Bool) (past : List B
     → (if done then events_of c (pass_call homes c p) ++ past else past) ≡ pass_events homes c p done ++ past
 split homes c p done past = grind arith
 
--- a call that was passed on to the scheduler of CPU c: the log and the CPU's threads before it and after it, and what it did
+-- a call that was passed on to the scheduler of CPU c: the log and the CPU's threads before it and
+-- after it, and what it did
 module _ (opening : LockId → Option (QueueBlock BufferLock)) {ActsFor : CpuId → Type 0} {c : CpuId} (p : Pass) (result : Option (Unit {0}))
     {old new : List BufferEvent} {own own' : Threads}
     (polled : SchedPolled (kernel_of opening) ActsFor c (sched.Pass p) (done_if result) old new own own') where

@@ -54,7 +54,7 @@ module _ (opening : LockId → Option (QueueBlock BufferLock)) (c : CpuId) (t : 
       → MayCallCond buffer_monitor_rules (kernel_of opening) c past own under_way (buffer_of call) (section_at t call call_state.stage)
   may_poll_section own under_way may = grind (arith, caller_is, may_for)
 
--- the marks after an answer
+-- the marks after a result
 abbrev slept_list : Tid → BufId → List (Option BufId) → QOut (CvOut BufferOut) → List (Option BufId)
 slept_list t b slept Queued = slice_set slept t.0 (Some b)
 slept_list t b slept other = slept
@@ -67,7 +67,7 @@ abbrev waits_list : Tid → BufId → List (Option BufId) → QOut (CvOut Buffer
 waits_list t b waits (Released o) = waits_list_in t b waits o
 waits_list t b waits other = waits
 
--- what the layers between make of an answer: it is handed on at once, or its caller has a mark now
+-- what the layers between make of a result: it is returned at once, or its caller gets a mark
 abbrev both : Tid → BufId → List (Option BufId) → List (Option BufId) → Left (Sleeping (QOut (CvOut BufferOut))) BufferOutcome
     → Left (Waiting BufferOut) BufferOutcome
 both t b waits slept l = left_waiting t b waits (left_after t b slept l.own l.answer).own (left_after t b slept l.own l.answer).answer
@@ -94,7 +94,7 @@ plain_recorded : (call_state : CallState) (stage : Stage) (out : QOut (CvOut Buf
     → recorded_by call_state stage out ≡ recorded call_state stage out
 plain_recorded call_state stage out plain = grind arith
 
--- whether a section puts its caller to sleep: its answer tells
+-- whether a section puts its caller to sleep, according to its result
 sleeps_as : (e : CvCall BufferEdit) (lock : BufferLock)
     → (lock_answer monitored e lock).slept ≡ is_some (wait_list_slept monitored (lock_answer monitored e lock).out)
 sleeps_as e lock = grind arith
@@ -102,12 +102,12 @@ sleeps_as e lock = grind arith
 plain_stays : (out : QOut (CvOut BufferOut)) → is_plain out ≡ true → wait_list_slept monitored out ≡ None
 plain_stays out plain = grind arith
 
--- a wait's answer is not handed on at once
+-- a wait's result is not returned at once
 no_wait_plain : (t : Tid) (call : Call) (stage : Stage) (lock : BufferLock) → is_plain (lock_out buffer_rules (section_at t call stage) lock) ≡ true
     → waits_at stage ≡ false
 no_wait_plain t call stage lock plain = grind arith
 
--- a section that wakes somebody has no effect
+-- a section that wakes a thread has no effect
 same_effect_or_none : (t : Tid) (call : Call) (stage : Stage) (call_state : CallState) (lock : BufferLock)
     → ((recorded call_state stage (lock_out buffer_rules (section_at t call stage) lock)).effect ≡ call_state.effect)
     ⊎ ((lock_answer buffer_rules (section_at t call stage) lock).woke ≡ None)
@@ -143,7 +143,7 @@ marks_other : (t u : Tid) (b : BufId) (slept waits : List (Option BufId)) (out :
     → (slept_for (slept_list t b slept out) u ≡ slept_for slept u) × (slept_for (waits_list t b waits out) u ≡ slept_for waits u)
 marks_other t u b slept waits out other = grind (arith, other_mark)
 
--- an answer that is not handed on at once puts its caller to sleep
+-- a result that is not returned at once puts its caller to sleep
 sleeping_wait_list : (out : QOut (CvOut BufferOut)) → is_plain out ≡ false → is_some (wait_list_slept monitored out) ≡ true
 sleeping_wait_list out plain = grind arith
 
@@ -176,7 +176,7 @@ module _ (caller : Caller) (stage : Stage) (position : ℕ) (effect : Option Eff
   abbrev e : CvCall BufferEdit
   e = section_at t call stage
 
-  -- the log after foreign events, and after the section
+  -- the log after environment events, and after the section
   abbrev seen : List BufferEvent
   seen = others ++ old
 
@@ -214,7 +214,7 @@ module _ (caller : Caller) (stage : Stage) (position : ℕ) (effect : Option Eff
     midway_later lawful (inl now) = subst MidwayWith (sym now.0) (now.1, apart_old lawful t home (Some call) None None call_state now.2)
     midway_later lawful (inr now) = subst MidwayWith (sym now.1) (deferred_on opening c others old (foreign c acts) lawful t home call_state now.0 now.2)
 
-    -- nothing of this CPU came
+    -- no event of this CPU was added
     still_polled : AreLawful opening seen → Fresh ⊎ Keeping → SectionPolledTo seen own (Some (sched.OnBuffer b e)) false call_state
     still_polled lawful now = record {
       others = others;
@@ -242,7 +242,7 @@ module _ (caller : Caller) (stage : Stage) (position : ℕ) (effect : Option Eff
       handed = λ some. absurd (not_slept some);
     }
 
-    -- the thread that the section woke was sent home
+    -- the thread that the section woke was forwarded to its home CPU
     sends_polled : (q : CpuId) (u : Tid) → AreLawful opening seen → (now : Keeping)
         → SectionPolledTo (event c (queue.Push q u) ∷ seen)
         (record { lock = record { sleep = record { threads = passed_on own.lock.sleep.threads; deferred = None }; slept = own.lock.slept }; waits = own.waits })
@@ -279,7 +279,8 @@ module _ (caller : Caller) (stage : Stage) (position : ℕ) (effect : Option Eff
           handed = λ some. refl;
         }
 
-    -- a section poll that left what a poll got, and one that left what the layers between made of it
+    -- a section poll that left what a poll got, and one that left what the layers between made of
+    -- it
     abbrev SectionPolledBy : List BufferEvent → Left (Waiting BufferOut) BufferOutcome → Option (SchedCall (CvCall BufferEdit)) → Type 0
     SectionPolledBy new got under_way = SectionPolledTo new got.own under_way (is_some got.answer) (recorded_if call_state stage got.answer)
 
@@ -341,7 +342,7 @@ module _ (caller : Caller) (stage : Stage) (position : ℕ) (effect : Option Eff
         handed = λ some. absurd (not_slept some);
       }
 
-      -- where its answer is handed on at once, the caller runs on
+      -- if its result is returned at once, the caller keeps running
       runs_on : is_plain outcome.out ≡ true → threads.current ≡ Some t
       runs_on plain = woken_current (homes_in opening) c outcome.woke gone_on
           ∙ ap (λ line. (own_slept line own.lock.sleep.threads).current) (plain_stays outcome.out plain) ∙ runs
@@ -352,7 +353,7 @@ module _ (caller : Caller) (stage : Stage) (position : ℕ) (effect : Option Eff
       abbrev stayed : Left (Sleeping (QOut (CvOut BufferOut))) BufferOutcome
       stayed = record { own = record { threads = threads; deferred = None }; answer = Some outcome }
 
-      -- it woke a thread of another CPU, and its caller goes on
+      -- it woke a thread of another CPU, and its caller continues
       deferred_polled : must_send outcome threads ≡ true → PolledFrom acted sent
       deferred_polled sends =
           to_done (record { lock = record { sleep = record { threads = threads; deferred = Some outcome }; slept = own.lock.slept }; waits = own.waits })

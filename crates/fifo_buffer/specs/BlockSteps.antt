@@ -1,4 +1,5 @@
--- What an effect makes of a buffer's block, whichever group it is counted with and whether it finds the buffer closed.
+-- What an effect makes of a buffer's block, for every group with which it is counted, and whether
+-- or not it finds the buffer closed.
 use Rattle.std.specs.Prelude.{◌≡◌, ℕ, ◌+◌, ◌%◌, ◌^◌, Bool, nat_lt, if◌then◌else◌}
 use Rattle.event_log.specs.{declared.{entries.{Entry.Entry, Kind.{Kind, TheVariants.{Send, Recv}}}, ids.Tid.Tid}, Buffers.{IsAllowedEffect, after_effect}}
 use Rattle.{event_log.specs.Runs.{Group, Closes, group_of, same_group}, layer_traits.specs.declared.locked.Side.{Side, TheVariants.{Receivers, Senders}}}
@@ -13,7 +14,8 @@ kind_on Senders = Send
 abbrev pub one_on : Bool → ℕ → ℕ
 one_on more n = if more then n + 1 else n
 
--- the block y is x after the effect e of this group: its position is the first of the group's line, and the lines go on behind it
+-- the block y is x after the effect e of this group: its position is the first of the group's line,
+-- and the lines continue after it
 pub record BlockStep (g : Group) (e : Entry) (position : Group → Tid → ℕ) (x y : BufferState) : Type 0 where
   pub counts : group_of e.kind ≡ g
   pub allowed : IsAllowedEffect e.kind x.closed x.capacity x.items e.value

@@ -6,11 +6,11 @@ use Rattle.layer_traits.specs.{declared.call_states.CallState.CallState, Blocks.
 use Rattle.layer_traits.specs.{Blocks.{QueueBlocks.inner, Capacities.caps_in}, Layers.{Conditions.CvCall, CvLaw.Waiting, Queues.buffer_sections}}
 use Rattle.fifo_buffer.specs.SectionPolls.{BufferEvent, CallsFit, Sizes}
 
--- the machine opened with a fresh lock round each buffer
+-- the machine opened with a fresh lock around each buffer
 abbrev pub BootsSo : (LockId → Option (QueueBlock BufferLock)) → Type 0
 BootsSo opening = inner opening ≡ opening_locks (caps_in opening)
 
--- the lists by thread have their sizes, and each call state fits what was done
+-- the lists by thread have their sizes, and each call state agrees with what was done
 pub record PartFits (opening : LockId → Option (QueueBlock BufferLock)) (c : CpuId) (past : List BufferEvent) (own : Waiting BufferOut)
     (call_states : List CallState) (under_way : Option (SchedCall (CvCall BufferEdit))) (calling : Option Tid) : Type 0 where
   pub boots : BootsSo opening

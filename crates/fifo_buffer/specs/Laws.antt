@@ -1,4 +1,5 @@
--- Lemmas that clauses of impls cite. They are proved here: no reader of a contract needs to believe them.
+-- Lemmas that clauses of impls cite. They are proved here: no reader of a contract needs to believe
+-- them.
 pub mod BlockSteps
 pub mod BlockTallies
 pub mod Tallies

@@ -1,10 +1,10 @@
--- What is read off a buffer's lock: its items, whether it is closed, its owner and its waiting lists.
+-- What is read from a buffer's lock: its items, whether it is closed, its owner and its wait lists.
 use Rattle.{std.specs.Prelude.{Bool, List, Option, Some}, event_log.specs.declared.ids.{BufId.BufId, LockId.{LockId, TheVariants.Buffer}, Tid.Tid}}
 use Rattle.{event_log.specs.Messages.Message, layer_traits.specs.declared.{moves.WaitList.WaitList, queue_edits.QueueBlock.QueueBlock}}
 use Rattle.layer_traits.specs.{Blocks.{BufferProtocol.{BufferLock, buffer_monitor_rules}, QueueBlocks.inner}, Layers.Conditions.cv_rules}
 use Rattle.{layer_traits.specs.Layers.{QLocking.{wait_list_in, lock_after}, Queues.buffer_sections}, fifo_buffer.specs.SectionPolls.BufferEvent}
 
--- the items of a lock's buffer, whether it is closed, its owner, and its waiting lists
+-- the items of a lock's buffer, whether it is closed, its owner, and its wait lists
 abbrev pub items_in : BufferLock → List Message
 items_in lock = lock.above.items
 

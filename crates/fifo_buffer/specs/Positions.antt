@@ -22,7 +22,8 @@ enters_side side (Release leave) = false
 abbrev pub entered_count : Side → LockId → List BufferSection → ℕ
 entered_count side lock past = how_many (λ s. same_lock lock s.lock && enters_side side s.edit) past
 
--- after lawful events a line's counter, which is the position of the next thread that enters, is the number of threads that entered it
+-- after lawful events a line's counter, which is the position of the next thread that enters, is
+-- the number of threads that entered it
 abbrev pub PositionsAreCounts : Type 0
 PositionsAreCounts = (opening : LockId → Option (QueueBlock BufferLock)) (past : List BufferEvent) → StartsWell opening → BootsSo opening
     → IsLawful (QueueAllowed (lock_kernel (cv_rules buffer_monitor_rules) opening)) past → (b : BufId) (side : Side) → b.0 < length (caps_in opening)

@@ -1,4 +1,5 @@
--- What a part keeps between its polls, what it may ask of the conditions beneath, and what one poll of them does for a call.
+-- What a part keeps between its polls, what it may request of the conditions below, and what one
+-- poll of them does for a call.
 use Rattle.std.specs.{Prelude.{◌≡◌, ◌⊎◌, Bool, true, false, List, ◌++◌, length, Option, Some, None, option_map, option_to_list, is_some}, List.AllByRecursion}
 use Rattle.event_log.specs.{declared.ids.{BufId.BufId, CpuId.CpuId, LockId.LockId, Tid.Tid, TheConstants.THREADS}, History.AreForeign}
 use Rattle.layer_traits.specs.declared.{buffer_edits.{BareBufferOut.BareBufferOut, BufferEdit.BufferEdit, BufferOut.BufferOut}, calls.Call.Call}
@@ -12,18 +13,18 @@ use Rattle.{layer_traits.specs.Threads.Places.home_of, thread_blocks.specs.Queue
 use Rattle.fifo_buffer.specs.Stances.{called_at, done_at, waits_at}
 use Rattle.layer_traits.specs.declared.conditions.CvOut.TheVariants as answer
 
--- an event of the buffers, and what a section of one answers
+-- an event of the buffers, and the result of one's section
 abbrev pub BufferEvent : Type 0
 BufferEvent = QueueEvent (CvCall BufferEdit)
 
 abbrev pub BufferOutcome : Type 0
 BufferOutcome = Outcome (QOut (CvOut BufferOut))
 
--- what the answer of a section tells, with the parcel beside it
+-- the outcome that a section's result describes, with the parcel beside it
 abbrev pub outcome_of : Outcome (QOut (CvOut BareBufferOut)) → Parcel → BufferOutcome
 outcome_of outcome parcel = outcome_told (lock_told (cv_told buffer_told)) outcome parcel
 
--- an answer that is handed on at once: its caller neither sleeps for the lock nor waits
+-- a result that is returned at once: its caller neither sleeps for the lock nor waits
 abbrev pub is_plain_in : CvOut BufferOut → Bool
 is_plain_in (answer.Waited side) = false
 is_plain_in other = true
@@ -33,7 +34,7 @@ is_plain Queued = false
 is_plain (Released out) = is_plain_in out
 is_plain other = true
 
--- the call state after an answer, if there is one
+-- the call state after a result, if there is one
 abbrev pub recorded_if : CallState → Stage → Option BufferOutcome → CallState
 recorded_if call_state stage None = call_state
 recorded_if call_state stage (Some outcome) = recorded call_state stage outcome.out
@@ -48,7 +49,7 @@ NoSection None = Unit {0}
 NoSection (Some (Pass p)) = Unit {0}
 NoSection (Some (OnBuffer b e)) = ⊥
 
--- what a CPU is at
+-- what is under way on a CPU
 abbrev pub passing_at : Option (SchedCall (CvCall BufferEdit)) → Option UnderWay
 passing_at None = None
 passing_at (Some (Pass p)) = Some (Passing p)
@@ -58,8 +59,8 @@ abbrev pub under_way_at : Option Tid → Option (SchedCall (CvCall BufferEdit)) 
 under_way_at None under_way = passing_at under_way
 under_way_at (Some t) under_way = Some (Calling t)
 
--- a section is under way: either it has not been done, or it was done with this outcome, which is kept while the thread that it woke
--- is sent home
+-- a section is under way: either it has not been done, or it was done with this outcome, which is
+-- kept until the thread that it woke is forwarded to its home CPU
 pub record IsDeferred (O : LockId → Option BufferLock) (past : List BufferSection) (t : Tid) (stage : Stage) (call_state : CallState)
     (outcome : BufferOutcome) : Type 0 where
   pub plain : is_plain outcome.out ≡ true
@@ -73,7 +74,7 @@ abbrev pub Midway : (LockId → Option BufferLock) → List BufferSection → Ti
 Midway O past t call call_state None hand = (hand ≡ None) × InCall O past t call None None call_state.stage call_state.position call_state.effect
 Midway O past t call call_state (Some outcome) hand = IsDeferred O past t call_state.stage call_state outcome
 
--- a thread's call may go on: its next section begins, or the one under way goes on
+-- a thread's call may continue: its next section begins, or the one under way continues
 pub record SectionBegins (O : LockId → Option BufferLock) (past : List BufferSection) (t : Tid) (call : Call) (call_state : CallState)
     (own : Waiting BufferOut) : Type 0 where
   pub hand : own.lock.sleep.threads.hand ≡ None
@@ -99,24 +100,25 @@ pub record MayPollSection (O : LockId → Option BufferLock) (past : List Buffer
   pub called : call_state.call ≡ Some call
   pub goes : SectionGoes O past t call call_state own under_way
 
--- the lists by thread are as long as there may be threads
+-- the lists by thread have a place for each thread that a machine may have
 pub record Sizes (own : Waiting BufferOut) (call_states : List CallState) : Type 0 where
   pub slept : length own.lock.slept ≡ THREADS
   pub waits : length own.waits ≡ THREADS
   pub call_states_are : length call_states ≡ THREADS
 
--- a thread's call state fits
+-- a thread's call state agrees with what was done
 abbrev pub FitsAt : (LockId → Option BufferLock) → List BufferSection → Waiting BufferOut → List CallState → Tid → Type 0
 FitsAt O past own call_states u = ThreadFits O past u (slept_for own.lock.slept u) (slept_for own.waits u) (call_state_of call_states u)
 
--- no call of a thread is under way, and all call states of the CPU's threads fit
+-- no call of a thread is under way, and all call states of the CPU's threads agree with what was
+-- done
 pub record IsIdle (homes : List CpuId) (c : CpuId) (O : LockId → Option BufferLock) (past : List BufferSection) (own : Waiting BufferOut)
     (call_states : List CallState) (under_way : Option (SchedCall (CvCall BufferEdit))) : Type 0 where
   pub none : NoSection under_way
   pub deferred : own.lock.sleep.deferred ≡ None
   pub fit : (u : Tid) → home_of homes u ≡ Some c → FitsAt O past own call_states u
 
--- this thread's call is under way, and the call states of the others fit
+-- this thread's call is under way, and the call states of the others agree with what was done
 pub record IsAtCall (homes : List CpuId) (c : CpuId) (O : LockId → Option BufferLock) (past : List BufferSection) (own : Waiting BufferOut)
     (call_states : List CallState) (under_way : Option (SchedCall (CvCall BufferEdit))) (t : Tid) : Type 0 where
   pub call : Call
@@ -129,7 +131,8 @@ abbrev pub CallsFit : List CpuId → CpuId → (LockId → Option BufferLock) �
 CallsFit homes c O past own call_states under_way None = IsIdle homes c O past own call_states under_way
 CallsFit homes c O past own call_states under_way (Some t) = IsAtCall homes c O past own call_states under_way t
 
--- a poll that ended its section: the thread runs on, with the call state that was told the answer
+-- a poll that ended its section: the thread keeps running, and its call state has recorded the
+-- result
 pub record Ended (O : LockId → Option BufferLock) (past : List BufferSection) (t : Tid) (call_state : CallState) (own : Waiting BufferOut)
     (under_way : Option (SchedCall (CvCall BufferEdit))) (later : CallState) : Type 0 where
   pub none : under_way ≡ None
@@ -141,7 +144,7 @@ pub record Ended (O : LockId → Option BufferLock) (past : List BufferSection) 
   pub reply : is_some call_state.effect ≡ done_at call_state.stage
   pub free : (slept_for own.lock.slept t ≡ None) × (slept_for own.waits t ≡ None)
 
--- a poll that did not: the thread sleeps now, or its section goes on
+-- a poll that did not: the thread sleeps, or its section continues
 pub record Sleeps (O : LockId → Option BufferLock) (past : List BufferSection) (t : Tid) (call : Call) (call_state : CallState) (own : Waiting BufferOut)
     (under_way : Option (SchedCall (CvCall BufferEdit))) : Type 0 where
   pub none : under_way ≡ None
@@ -161,7 +164,8 @@ After O past t call call_state own under_way true later = Ended O past t call_st
 After O past t call call_state own under_way false later =
     (later ≡ call_state) × (Sleeps O past t call call_state own under_way ⊎ SectionStays O past t call call_state own under_way)
 
--- what one poll of a section did: foreign events came first, then at most one of this CPU; it left this own state and this call state
+-- what one poll of a section did: environment events first, then at most one of this CPU; it left
+-- this private state and this call state
 pub record SectionPolled (homes : List CpuId) (ActsFor : CpuId → Type 0) (O : LockId → Option BufferLock) (c : CpuId) (t : Tid) (call : Call)
     (call_state : CallState) (old new : List BufferEvent) (own left : Waiting BufferOut) (under_way : Option (SchedCall (CvCall BufferEdit))) (done : Bool)
     (later : CallState) : Type 0 where
@@ -184,7 +188,7 @@ pub record SectionPolled (homes : List CpuId) (ActsFor : CpuId → Type 0) (O : 
   pub over : waits_at call_state.stage ≡ true → done ≡ is_some (slept_for own.waits t)
   pub handed : is_some (slept_for own.lock.slept t) ≡ true → done ≡ true
 
--- whether the next section follows in the same poll, where this stage's ends without an action
+-- whether the next section follows in the same poll, because this stage's ends without an action
 abbrev pub is_at_once : Stage → Bool → Bool
 is_at_once Acquires handed = handed
 is_at_once Waits handed = true

@@ -1,4 +1,5 @@
--- First come, first served: the calls of one side of a buffer take effect in the order in which their threads joined its line.
+-- First come, first served: the calls of one side of a buffer take effect in the order in which
+-- their threads entered its line (wait queue).
 use Rattle.std.specs.Prelude.{◌≡◌, ℕ, ◌<◌, ◌==◌, ◌&&◌, List, [], ◌∷◌, ◌++◌, length, Option, Some, if◌then◌else◌}
 use Rattle.layer_traits.specs.Blocks.{Capacities.caps_in, BufferBlocks.line_of, BufferEffects.effects_in, BufferProtocol.{BufferLock, BufferSection}}
 use Rattle.layer_traits.specs.Blocks.{BufferProtocol.{buffer_lock_at, buffer_monitor_rules, buffer_rules}, QueueBlocks.{StartsWell, inner}}
@@ -8,7 +9,7 @@ use Rattle.event_log.specs.{declared.{entries.Entry.Entry, ids.{BufId.BufId, Loc
 use Rattle.{event_log.specs.Runs.{Group, Sends, Receives, group_of, same_group}, fifo_buffer.specs.{FifoFits.BootsSo, Positions.enters_side}}
 use Rattle.fifo_buffer.specs.SectionPolls.{BufferEvent}
 
--- the threads that joined this side's line of a lock's buffer in these sections, the first in front
+-- the threads that entered this side's line of a lock's buffer in these sections, oldest first
 abbrev pub joiners_of : Side → LockId → List BufferSection → List Tid
 joiners_of side lock [] = []
 joiners_of side lock (s ∷ past) =
@@ -19,12 +20,13 @@ abbrev pub group_on : Side → Group
 group_on Receivers = Receives
 group_on Senders = Sends
 
--- the threads whose calls of this side took effect on buffer b, the first in front
+-- the threads whose calls of this side took effect on buffer b, oldest first
 abbrev pub served : Side → ℕ → List Entry → List Tid
 served side b [] = []
 served side b (e ∷ past) = if (b == e.buffer.0) && same_group (group_of e.kind) (group_on side) then served side b past ++ e.thread ∷ [] else served side b past
 
--- after lawful events those who joined a line are those whose calls of its side took effect, in the same order, and then those who still stand in line
+-- after lawful events, the threads that entered a line, oldest first, are those whose calls of its
+-- side took effect, in the order of these effects, followed by those in the line
 abbrev pub FirstComeFirstServed : Type 0
 FirstComeFirstServed = (opening : LockId → Option (QueueBlock BufferLock)) (past : List BufferEvent) → StartsWell opening → BootsSo opening
     → IsLawful (QueueAllowed (lock_kernel (cv_rules buffer_monitor_rules) opening)) past → (b : BufId) (side : Side) → b.0 < length (caps_in opening)

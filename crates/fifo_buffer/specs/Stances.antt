@@ -1,5 +1,5 @@
--- Where a thread stands in its message call, read over the sections of the buffers: which lock it holds, in which line it stands with
--- which position, and whether it tried in vain.
+-- Where a thread is in its message call, read from the sections of the buffers: which lock it
+-- holds, in which line it is with which position, and whether its try failed.
 use Rattle.std.specs.Prelude.{◌≡◌, ◌≢◌, ℕ, Bool, true, false, not, ◌&&◌, List, [], Option, Some, None, is_some}
 use Rattle.event_log.specs.{declared.ids.{BufId.BufId, LockId.{LockId, TheVariants.Buffer}, Tid.Tid}, History.same_lock}
 use Rattle.layer_traits.specs.declared.{calls.{Call.{Call, TheVariants.Close}, Effect.Effect}, buffer_edits.BufferOut.BufferOut, conditions.CvOut.CvOut}
@@ -32,13 +32,14 @@ abbrev pub IsFreeOf : Tid → Option BufferLock → Type 0
 IsFreeOf t None = Unit {0}
 IsFreeOf t (Some lock) = (lock.owner ≢ Some t) × (is_in t lock.sleepers ≡ false)
 
--- it holds the lock, or asks for it, or neither
+-- it holds the lock, or requests it, or neither
 abbrev pub Grip : Tid → Bool → Bool → Option BufferLock → Type 0
 Grip t true asks lock = HoldsLock t lock
 Grip t false true lock = Unit {0}
 Grip t false false lock = IsFreeOf t lock
 
--- what a stage says of its thread: whether it holds its buffer's lock, given whether it waits; and whether it stands in its line
+-- what a stage implies of its thread: whether it holds its buffer's lock, given whether it waits;
+-- and whether it is in its line
 abbrev pub holds_at : Stage → Bool → Bool
 holds_at Idle waits = false
 holds_at Acquires waits = false
@@ -52,7 +53,8 @@ lined_at Waits = true
 lined_at AcquiresAgain = true
 lined_at stage = false
 
--- whether a thread may sleep for its lock there, whether it may wait, and whether its effect is done
+-- whether a thread at this stage may sleep for its lock, whether it may wait, and whether its
+-- effect is done
 abbrev pub asks_at : Stage → Bool
 asks_at Acquires = true
 asks_at AcquiresAgain = true
@@ -85,7 +87,7 @@ IsMark b may None = Unit {0}
 IsMark b may (Some at) = (at ≡ b) × (may ≡ true)
 
 module _ (opening : LockId → Option BufferLock) (past : List BufferSection) (t : Tid) where
-  -- a thread's grip on each lock, how often it stands in each line, and its position where it stands in one
+  -- a thread's grip on each lock, how often it is in each line, and its position if it is in one
   pub record Stance (b : BufId) (side : Side) (holds asks lined : Bool) (position : ℕ) : Type 0 where
     pub grip : (lock : LockId) → Grip t (holds && same_lock lock (Buffer b)) (asks && same_lock lock (Buffer b)) (buffer_lock_at opening past lock)
     pub line : (lock : LockId) (at : Side)
@@ -109,7 +111,7 @@ module _ (opening : LockId → Option BufferLock) (past : List BufferSection) (t
     pub slept_none : slept ≡ None
     pub waits_none : waits ≡ None
 
-  -- a thread's call state, by its call
+  -- a thread's call state agrees with its call
   abbrev pub CallStateFits : Option Call → Option BufId → Option BufId → CallState → Type 0
   CallStateFits None slept waits call_state = AtRest slept waits call_state.stage
   CallStateFits (Some call) slept waits call_state = InCall call slept waits call_state.stage call_state.position call_state.effect
@@ -121,7 +123,8 @@ module _ (opening : LockId → Option BufferLock) (past : List BufferSection) (t
 abbrev pub call_state_in : Stage → Call → ℕ → Option Effect → CallState
 call_state_in stage call position effect = record { stage = stage; call = Some call; position = position; effect = effect }
 
--- what a section's answer leaves of the marks of its caller: whether it sleeps for the lock, and whether it waits
+-- what a section's result leaves of the marks of its caller: whether it sleeps for the lock, and
+-- whether it waits
 abbrev pub slept_by : BufId → QOut (CvOut BufferOut) → Option BufId
 slept_by b Queued = Some b
 slept_by b other = None
@@ -134,7 +137,7 @@ abbrev pub waits_by : BufId → QOut (CvOut BufferOut) → Option BufId
 waits_by b (Released out) = waits_reported b out
 waits_by b other = None
 
--- and of its call state: whoever sleeps or waits was not told yet
+-- and of its call state: a caller that sleeps or waits has no result yet
 abbrev pub recorded_in : CallState → Stage → CvOut BufferOut → CallState
 recorded_in call_state stage (answer.Did out) = recorded call_state stage (Released (answer.Did out))
 recorded_in call_state stage (answer.Signalled side front) = recorded call_state stage (Released (answer.Signalled side front))

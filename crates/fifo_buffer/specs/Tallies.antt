@@ -1,4 +1,5 @@
--- What a buffer's block tells of its effects. A close is an effect that draws its position as it comes, so nobody waits for one in line.
+-- How a buffer's block accounts for its effects. A close draws its position when it takes effect,
+-- so that no thread waits for one in a line.
 use Rattle.std.specs.Prelude.{◌≡◌, ℕ, ◌+◌, ◌<◌, ◌%◌, ◌^◌, List, [], ◌∷◌, length, slice_index}
 use Rattle.event_log.specs.{declared.{entries.{Entry.Entry, Kind.Kind}, ids.{BufId.BufId, CpuId.CpuId, Tid.Tid}}, Buffers.items_of, Runs.{count_of, Group}}
 use Rattle.{event_log.specs.Runs.{Sends, Receives, Closes, count_of_kind, group_of, is_closed}, layer_traits.specs.declared.locked.Side.Side}
@@ -10,7 +11,7 @@ drawn_by Sends x = x.sends
 drawn_by Receives x = x.receives
 drawn_by Closes x = x.closes
 
--- who has drawn one and has had no effect, first in front
+-- the threads that have drawn a position and have had no effect, oldest first
 abbrev pub line_by : Group → BufferState → List Tid
 line_by Sends x = x.send_line
 line_by Receives x = x.receive_line
@@ -22,13 +23,15 @@ by_side position Sends = position Senders
 by_side position Receives = position Receivers
 by_side position Closes = λ t. 0
 
--- the threads of a line have drawn the positions n, n + 1 and so on, and the position behind them is next, modulo 2^64
+-- the threads of a line have drawn the positions n, n + 1 and so on, and the position after them is
+-- next, modulo 2^64
 abbrev pub IsNumbered : (Tid → ℕ) → ℕ → ℕ → List Tid → Type 0
 IsNumbered position n next [] = next ≡ n % 2 ^ 64
 IsNumbered position n next (t ∷ queue) = (position t ≡ n % 2 ^ 64) × IsNumbered position (n + 1) next queue
 
--- a buffer's block tells its effects: the items are what they leave, it is closed exactly where one of them closed it, and it counts
--- them; and the threads in line have the positions behind those of the effects of their group
+-- A buffer's block accounts for its effects: its items are what they leave, it is closed exactly if
+-- one of them closed it, and it counts them. The threads in a line have the positions after those
+-- of the effects of their group.
 pub record Tally (caps : List ℕ) (b : ℕ) (es : List Entry) (position : Group → Tid → ℕ) (x : BufferState) : Type 0 where
   pub known : b < length caps
   pub wide : length (contents_of caps es) ≡ length caps

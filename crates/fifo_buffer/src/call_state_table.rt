@@ -1,4 +1,4 @@
-//! The call states of all threads. No call takes memory or waits.
+//! The call states of all threads. No function allocates or blocks.
 
 ghost use Rattle.std.specs.Prelude.{◌≡◌, ◌<◌, is_some, replicate, slice_set};
 ghost use Rattle.{event_log.specs.declared.ids.TheConstants.THREADS, layer_traits.specs.Layers.BufferLaw.{going, no_call, call_state_of}};
@@ -13,12 +13,12 @@ use layer_traits::{
 /// The call state of each thread.
 #[derive(Drop)]
 pub struct CallStates {
-    /// By thread.
+    /// The call state of each thread, by its number.
     pub call_states: [CallState; THREADS],
 }
 
 impl CallStates {
-    /// No thread ever called.
+    /// The table in which no thread has called.
     pub fn new() -> CallStates
         ensures { result.call_states ≡ replicate THREADS no_call }
     {
@@ -38,7 +38,7 @@ impl CallStates {
         *self.effect_here(t)
     }
 
-    /// The same effect where it lies.
+    /// The same effect, by reference.
     ///
     /// Requires: the thread is below `THREADS`.
     #[inline(always)]
@@ -49,8 +49,8 @@ impl CallStates {
         &self.call_states[usize::from(t.0)].effect
     }
 
-    /// Whether the call at which a poll of `call` by `t` goes on has taken effect: between calls a new
-    /// one begins, which has not.
+    /// Whether the call that a poll of `call` by `t` continues has taken effect. Between calls a
+    /// new one begins, which has not.
     ///
     /// Requires: the thread is below `THREADS`.
     #[inline(always)]
@@ -63,7 +63,7 @@ impl CallStates {
         call_state.stage != Stage::Idle && call_state.effect.is_some()
     }
 
-    /// The stage at which a poll of `call` by `t` goes on: between calls a new one begins.
+    /// The stage that a poll of `call` by `t` continues. Between calls a new one begins.
     ///
     /// Requires: the thread is below `THREADS`.
     #[inline(always)]
@@ -85,10 +85,10 @@ impl CallStates {
         }
     }
 
-    /// Keeps for `t`, which is in `call`, what a poll of its section at this stage answered, with the
-    /// parcel that the answer brought, and returns whether it did.
+    /// Records for `t`, which is in `call`, the result of a poll of its section at this stage, with
+    /// the parcel that the result brought. Returns whether there was a result.
     ///
-    /// Requires: the thread is below `THREADS`, and its call goes on at this stage.
+    /// Requires: the thread is below `THREADS`, and its call is at this stage.
     #[inline(always)]
     pub fn record_answer(
         &mut self,

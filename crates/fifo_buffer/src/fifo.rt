@@ -1,4 +1,4 @@
-//! First-in first-out buffers.
+//! First-in first-out buffers: one CPU's part of the layer.
 
 ghost use Rattle.std.specs.Prelude.{◌≡◌, ◌<◌, [], Bool, Some, None, IsSome, refl, slice_set, if◌then◌else◌};
 ghost use Rattle.layer_traits.specs.Blocks.{Capacities.caps_in, BufferProtocol.buffer_rules, QueueBlocks.{homes_in, inner}, QueueRules.queue_rules};
@@ -27,9 +27,9 @@ struct SectionPoll {
 }
 
 /// One CPU's part of first-in first-out blocking bounded buffers (Anderson and Dahlin), over a part
-/// `C` of conditions: it keeps of each thread how far its message call has come, and for clauses alone
-/// whose call is under way. It owns the payload in which its CPU's layers hand messages and taken
-/// threads on.
+/// `C` of conditions. It keeps the stage of each thread's message call and, only for clauses, whose
+/// call is under way. It owns the payload, in which its CPU's layers pass messages and taken
+/// threads to each other.
 #[derive(Drop)]
 pub struct Fifo<C> {
     lower: C,
@@ -92,8 +92,9 @@ impl<C: ThreadLayer<CvLaw<BufferEdit>>> Fifo<C> {
         SectionPoll { ended, at_once }
     }
 
-    /// The kind of the reply of `call` after a section poll at this stage, which ended its section or
-    /// not; and keeps for clauses whether the call is still under way.
+    /// Completes a section poll of `call` at this stage, which ended its section or not. Returns
+    /// the kind of the call's reply, if there is one, and keeps for clauses whether the call is
+    /// still under way.
     fn complete(&mut self, t: Tid, call: &Call, stage: Stage, done: bool) -> Option<ReplyKind>
         requires known { t.0 < THREADS }
         ensures answer { answer_in self.old.call_states.call_states t result
@@ -223,7 +224,7 @@ impl<C: ThreadLayer<CvLaw<BufferEdit>>> CallLayer<BufferLaw> for Fifo<C> {
         let mut first = true;
         'sections: loop {
             let stage = self.call_states.next_stage(t, call);
-            // An arm for each stage, so that each holds the section of its stage alone.
+            // An arm for each stage, so that each contains only the section of its stage.
             let polled = match stage {
                 Stage::Idle | Stage::Acquires => self.poll_section(m, t, call, Stage::Acquires),
                 Stage::Enters => self.poll_section(m, t, call, Stage::Enters),

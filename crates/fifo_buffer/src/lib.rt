@@ -1,5 +1,5 @@
-//! First-in first-out blocking bounded buffers over locks with conditions: whoever calls enters the
-//! line of its side, and the first of a line goes on once the buffer allows it.
+//! First-in first-out blocking bounded buffers over locks with conditions. A caller enters the line
+//! (wait queue) of its side, and the first of a line continues once the buffer allows it.
 //!
 //! One poll of thread 3's send to buffer 0:
 //!

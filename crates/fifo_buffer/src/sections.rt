@@ -1,4 +1,4 @@
-//! The sections of a message call, stage by stage. No call takes memory or waits.
+//! The sections of a message call, stage by stage. No function allocates or blocks.
 
 ghost use Rattle.std.specs.Prelude.{◌≡◌, Option, option_map};
 ghost use Rattle.layer_traits.specs.{declared.{calls.Effect.Effect, payloads.Parcel.Parcel}, Layers.BufferLaw.{first_of, going, message_of, recorded}};
@@ -12,7 +12,7 @@ use layer_traits::{
     QEdit, QOut, ReplyKind, Side, Stage,
 };
 
-/// A call's own side; a close signals to the senders last.
+/// A call's own side. A close signals the senders last.
 #[inline(always)]
 fn own_side(call: &Call) -> Side
     ensures { result ≡ side_of call.now }
@@ -23,7 +23,7 @@ fn own_side(call: &Call) -> Side
     }
 }
 
-/// The side that a call signals to first.
+/// The side that a call signals first.
 #[inline(always)]
 fn far_side(call: &Call) -> Side
     ensures { result ≡ other_side call.now }
@@ -46,7 +46,7 @@ fn first_edit(t: Tid, call: &Call) -> BareBufferEdit
     }
 }
 
-/// The edit that a call tries; a close never does. A send lays down the message that it puts.
+/// The edit that a call tries; a close never tries. A send stores its message in the payload.
 #[inline(always)]
 fn next_try(t: Tid, call: &Call, parcel: &mut Parcel) -> BareBufferEdit
     ensures { buffer_meant result parcel.new ≡ try_of t call.now }
@@ -61,7 +61,7 @@ fn next_try(t: Tid, call: &Call, parcel: &mut Parcel) -> BareBufferEdit
     }
 }
 
-/// The kind of the reply of a call after an effect: the message of a receive lies in the effect.
+/// The kind of the reply of a call after an effect. The message of a receive is in the effect.
 #[inline(always)]
 fn kind_by(call: &Call, kind: Kind) -> ReplyKind
     ensures { (effect : Option Effect) → reply_with result effect ≡ reply_by call.now kind (message_of effect) }
@@ -79,8 +79,8 @@ fn kind_by(call: &Call, kind: Kind) -> ReplyKind
     }
 }
 
-/// The section of a call at a stage. Lays down the message that it puts, if it puts one: a send's,
-/// where it tries.
+/// The section of a call at a stage. It stores the message that the section puts, if it puts one:
+/// that of a send that tries.
 #[inline(always)]
 pub fn section(
     t: Tid,
@@ -101,7 +101,7 @@ pub fn section(
     }
 }
 
-/// Begins `call` where its thread is between calls.
+/// Begins `call` if its thread is between calls.
 pub fn begin(call_state: &mut CallState, call: &Call)
     ensures { call_state.new ≡ going call_state.old call.now }
 {
@@ -113,8 +113,8 @@ pub fn begin(call_state: &mut CallState, call: &Call)
     }
 }
 
-/// Keeps what a thread that entered its line was told: its position; or what one that closed the
-/// buffer was told: its effect. The numbers lie in the parcel.
+/// Records the result of a section that entered a line or closed the buffer: the position of a
+/// thread that entered, the effect of a close. The numbers are in the parcel.
 fn record_entry(call_state: &mut CallState, out: &QOut<CvOut<BareBufferOut>>, parcel: &Parcel)
     ensures { call_state.new ≡ enlisted call_state.old (reported_by (lock_told (cv_told buffer_told) out.now parcel.now)) }
 {
@@ -138,8 +138,8 @@ fn record_entry(call_state: &mut CallState, out: &QOut<CvOut<BareBufferOut>>, pa
     }
 }
 
-/// Keeps what a thread that tried was told: its effect, with the message and the number that lie in
-/// the parcel, or that it has to wait.
+/// Records the result of a try: its effect, with the message and the number that are in the parcel,
+/// or that the thread must wait.
 fn record_try(call_state: &mut CallState, out: &QOut<CvOut<BareBufferOut>>, parcel: &Parcel)
     ensures { call_state.new ≡ tried call_state.old (reported_by (lock_told (cv_told buffer_told) out.now parcel.now)) }
 {
@@ -159,8 +159,8 @@ fn record_try(call_state: &mut CallState, out: &QOut<CvOut<BareBufferOut>>, parc
     }
 }
 
-/// Keeps what the section of this stage answered, with the parcel that the answer brought: the call
-/// state is at the next stage then.
+/// Records the result of the section of this stage, with the parcel that the result brought. The
+/// call state is then at the next stage.
 #[inline(always)]
 pub fn record_section(
     call_state: &mut CallState,
@@ -186,8 +186,8 @@ pub fn record_section(
     }
 }
 
-/// The kind of the reply of a call whose section at this stage has ended: that of its effect, after
-/// the last section.
+/// The kind of the reply of a call whose section at this stage has ended: the kind of its effect,
+/// after the last section.
 #[inline(always)]
 pub fn reply(call: &Call, stage: Stage, effect: &Option<Effect>) -> Option<ReplyKind>
     ensures { option_map (λ k. reply_with k effect.now) result ≡ reply_at call.now stage effect.now }
@@ -208,8 +208,8 @@ pub fn reply(call: &Call, stage: Stage, effect: &Option<Effect>) -> Option<Reply
     }
 }
 
-/// Whether the next section follows in the same poll where this stage's ends without an action: at
-/// an Acquire, where its thread was handed the lock, and at a wait.
+/// Whether the next section follows in the same poll because this stage's ends without an action.
+/// This is so at an Acquire whose thread was handed the lock, and at a wait.
 #[inline(always)]
 pub fn answers_at_once(stage: Stage, handed: bool) -> bool
     ensures { result ≡ is_at_once stage handed }

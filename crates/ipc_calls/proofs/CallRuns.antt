@@ -1,4 +1,4 @@
--- Runs of polls of a call on a buffer that is there are runs of polls of the buffers beneath.
+-- Consecutive polls of a call on a buffer that exists are consecutive polls of the buffers below.
 use Rattle.std.proofs.{Common.{◌≡◌, ℕ, ◌+◌, ◌<◌, ◌≤◌, Bool, true, List, [], Option, Some, None, length, refl, ap, arith}, lemmas.Bool.{le-ltb, lt-ltb}}
 use Rattle.layer_traits.specs.{Blocks.{Capacities.caps_in, QueueBlocks.homes_in}, declared.{call_layers.CallLayer.Ghosts, calls.{Call.Call, Reply.Reply}}}
 use Rattle.layer_traits.specs.{declared.calls.ReplyKind.{ReplyKind, TheVariants.NoBuffer as Refuses}, Layers.BufferLaw.{BufferPlan, Buffering, buffer_of}}
@@ -6,7 +6,7 @@ use Rattle.layer_traits.specs.{Layers.{BufferLaw.fifo_plan, IpcLaw.ipc_plan}, Po
 use Rattle.layer_traits.{specs.Polling.{LayerPolls.PolledOnAt, PollRuns.{LookedOn, once, again, looks}}, proofs.PollRunLemmas.{Kept, run_kept}}
 use Rattle.{event_log.specs.declared.ids.{CpuId.CpuId, Tid.Tid}, ipc_calls.specs.{declared.ipc.Ipc.Ipc, Parts.KeepsPlan}}
 
--- what a part of message calls tells as a layer of calls, over a part of buffers
+-- what a part of message calls reports as a layer of calls, over a part of buffers
 abbrev pub tells : {P L M : Type 0} → Ghosts P L M → Ghosts (Ipc P) (Unit {0}) M
 tells B = record {
   seen = λ m. B.seen m;
@@ -74,7 +74,7 @@ module _ {P L M : Type 0} (B : Ghosts P L M) (start : Ipc P) where
       (keeps_on q r n o last.framed.cpu last.framed.stays.opening so_far.0, LookedOn.more so_far.1 (looked_over q r n o true so_far.0 last))
 
   module _ (t : Tid) (call : Call) where
-    -- a number that is no buffer's is refused, and nothing is done
+    -- a number that is no buffer's is rejected, and nothing is done
     pub bad_number_refused : (p : Ipc P) (m : M) → length (caps_in (B.opening m)) ≤ (buffer_of call).0 → (tells B).Fits p m
         → PolledAt (tells B) ipc_plan t call p m p m (Some Refuses)
     bad_number_refused p m none fits = record {

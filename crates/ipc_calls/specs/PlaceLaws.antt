@@ -1,10 +1,11 @@
--- The threads of a machine, as its parts see them.
+-- The threads of a machine, as its parts observe them.
 use Rattle.std.specs.Prelude.{◌≡◌, ℕ, ◌<◌, List, Option, Some}
 use Rattle.{event_log.specs.declared.ids.{BufId.BufId, CpuId.CpuId, Tid.Tid}, layer_traits.specs.declared.moves.WaitList.WaitList}
 use Rattle.layer_traits.specs.{Layers.IpcLaw.WaitListsAgree, Threads.Places.{AreMoves, Stands, Step, Threads, home_of, pending_by}, Views.Observed.IsObservedAs}
 
--- the threads of a machine as its parts see them: how they moved and in which lines they sleep, the own threads of each part's CPU, and
--- what the machine and each part tell of pending queues and of lines, which is the truth
+-- The threads of a machine as its parts observe them: how they moved, in which wait lists they
+-- sleep, and the scheduling state of each part's CPU. What the machine and each part report of
+-- pending queues and of wait lists is the truth.
 pub record Watched (P : Type 0) : Type 1 where
   pub Fits : P → Type 0
   pub cpu_of : P → CpuId

@@ -1,4 +1,4 @@
-//! Message calls over buffers.
+//! Message calls over buffers: one CPU's part of the top layer.
 
 ghost use Rattle.std.specs.Prelude.{◌≡◌, ◌<◌, None, Some, IsSome, length, refl};
 ghost use Rattle.layer_traits.specs.{Blocks.{Capacities.caps_in, QueueBlocks.homes_in}, declared.calls.Place.Place, Threads.Places.{home_of, is_thread}};
@@ -24,7 +24,7 @@ fn is_it(t: Tid, other: Option<Tid>) -> bool
     }
 }
 
-/// Whether it was told to be so.
+/// Whether a report says yes.
 fn says(observed: Option<bool>) -> bool
     ensures { result ≡ said observed }
 {
@@ -34,7 +34,7 @@ fn says(observed: Option<bool>) -> bool
     }
 }
 
-/// The place of a thread that sleeps in this line of a buffer.
+/// The place of a thread that sleeps in this wait list of a buffer.
 fn waiters_of(buffer: BufId, wait_list: WaitList) -> Place
     ensures { result ≡ asleep_at buffer wait_list }
 {
@@ -45,9 +45,9 @@ fn waiters_of(buffer: BufId, wait_list: WaitList) -> Place
     }
 }
 
-/// One CPU's part of the layer of message calls, over a part `B` of buffers. It keeps how many
-/// buffers there are, by which it refuses a number that is none's, and the home of each thread, by
-/// which it knows the one pending queue in which a thread may stand.
+/// One CPU's part of the layer of message calls, over a part `B` of buffers. It keeps the number of
+/// buffers, to reject a number that is no buffer's. It keeps the home CPU of each thread, whose
+/// pending queue is the only one that can contain the thread.
 #[derive(Drop)]
 pub struct Ipc<B> {
     lower: B,
@@ -192,7 +192,7 @@ impl<B: CallLayer<BufferLaw>> CallLayer<IpcLaw> for Ipc<B> {
 impl<B: OwnedBuffers> Ipc<B> {
     ghost use Rattle.event_log.specs.declared.ids.BufId.{BufId};
 
-    /// Where `t` stands among this CPU's own threads; `None` where it is none of them.
+    /// The place of `t` in this CPU's scheduling state; `None` if it is not there.
     fn own_place(&self, t: Tid) -> Option<Place>
         requires { B.cpu_of self.now.lower ≡ self.now.cpu }
         ensures observed { (x : Place) → result ≡ Some x
@@ -215,7 +215,7 @@ impl<B: OwnedBuffers> Ipc<B> {
         None
     }
 
-    /// The home of `t`, which there is.
+    /// The home CPU of `t`, which must exist.
     fn home(&self, t: Tid) -> CpuId
         requires { t.0 < length self.now.homes.items }
         ensures { home_of self.now.homes.items t ≡ Some result }
@@ -223,7 +223,7 @@ impl<B: OwnedBuffers> Ipc<B> {
         self.homes[usize::from(t.0)]
     }
 
-    /// Whether the machine or the part tells that `t` stands in the pending queue of `d`.
+    /// Whether the machine or the part reports that `t` is in the pending queue of `d`.
     fn pends(&self, m: &B::Machine, d: CpuId, t: Tid) -> bool
         requires acts { (c : CpuId) × B.ActsFor m.now c }
         requires queue { IsSome (B.opening m.now (Pending d)) }
@@ -232,7 +232,7 @@ impl<B: OwnedBuffers> Ipc<B> {
         says(B::pends_in(m, d, t)) || says(self.lower.pends_here(d, t))
     }
 
-    /// The line of a buffer in which `t` stands, as the machine or the part tells it.
+    /// The wait list of a buffer that contains `t`, as the machine or the part reports it.
     fn wait_list(&self, m: &B::Machine, buffer: BufId, t: Tid) -> Option<WaitList>
         requires acts { (c : CpuId) × B.ActsFor m.now c }
         requires buffer { buffer.0 < length (caps_in (B.opening m.now)) }
@@ -244,7 +244,7 @@ impl<B: OwnedBuffers> Ipc<B> {
         }
     }
 
-    /// The first buffer, and its line, in which the machine or the part tells that `t` stands.
+    /// The first buffer, and its wait list, that the machine or the part reports to contain `t`.
     fn asleep(&self, m: &B::Machine, t: Tid) -> Option<(BufId, WaitList)>
         requires acts { (c : CpuId) × B.ActsFor m.now c }
         requires count { length (caps_in (B.opening m.now)) ≡ self.now.buffers }

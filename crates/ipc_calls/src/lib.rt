@@ -1,5 +1,5 @@
-//! The layer of message calls, the top of the tower: a number that is no buffer's is refused at
-//! once, and a part tells where each thread stands.
+//! The layer of message calls, the top of the tower. It rejects a number that is no buffer's at
+//! once, and its parts report the place of each thread.
 //!
 //! CPU 0's part of the tower over a machine of locks, and one poll of thread 0's receive:
 //!

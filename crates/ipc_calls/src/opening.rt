@@ -1,4 +1,4 @@
-//! A layer of buffers that opens a machine. Only `open` takes memory. No call waits.
+//! A layer of buffers that opens a machine. Only `open` allocates. No function blocks.
 
 ghost use Rattle.std.specs.Prelude.{◌≡◌, ◌<◌, ◌≤◌, [], IsSome, IfOk};
 ghost use Rattle.layer_traits.specs.Blocks.Capacities.{caps_in};
@@ -15,18 +15,19 @@ use std::alloc::Global;
 /// A call on the lock of a buffer.
 pub type LockEdit = QLockEdit<CvEdit<BufferEdit>, CvLeave>;
 
-/// A layer of buffers whose machine is opened with its buffers, and tells of its blocks.
+/// A layer of buffers whose machine is opened with its buffers, and which reports the machine's
+/// blocks.
 pub trait OpensBuffers: OwnedBuffers {
     ghost use Rattle.event_log.specs.declared.ids.{CpuId.CpuId, LockId.TheVariants.Pending, TheConstants.CPUS};
     ghost use Rattle.layer_traits.specs.{Blocks.{BufferEffects.opening_locks, QueueBlocks.{homes_in, inner}}, Views.Openings.{AreOpenable, Opened}};
 
     /// A machine of so many CPUs, with a buffer of each of these capacities and a thread of each of
-    /// these homes, and with room for `room` polls. All memory is taken here.
+    /// these home CPUs. It has room for `room` polls. All memory is allocated here.
     ///
-    /// Requires: there are one to `CPUS` CPUs, at most `BUFFERS` capacities, each from 1 to
-    /// `CAPACITY`, and at most `THREADS` homes, each one of the CPUs.
+    /// Requires: there are 1 to `CPUS` CPUs, and at most `BUFFERS` capacities, each from 1 to
+    /// `CAPACITY`. There are at most `THREADS` homes, each one of the CPUs.
     ///
-    /// Errors: `NoMemory` where an allocation was refused.
+    /// Errors: `NoMemory` if an allocation failed.
     fn open(
         alloc: Global,
         cpus: u8,
@@ -45,7 +46,8 @@ pub trait OpensBuffers: OwnedBuffers {
         ensures holders { IfOk result (λ m. (c : CpuId) → Self.MayHold m c → ⊥) };
 }
 
-/// Shared queues whose machine is opened with the locks of buffers, and that tell of its blocks.
+/// Shared queues whose machine is opened with the locks of buffers, and which report the machine's
+/// blocks.
 pub trait OpensQueues: OwnedLayer<QueueLaw<SleepEdit<LockEdit>>> {
     ghost use Rattle.event_log.specs.declared.ids.{CpuId.CpuId, LockId.TheVariants.Pending, TheConstants.CPUS};
     ghost use Rattle.layer_traits.specs.{Blocks.{BufferEffects.opening_locks, QueueBlocks.{homes_in, inner}}, Views.{Openings.AreOpenable, Renaming.viewed}};
@@ -53,10 +55,10 @@ pub trait OpensQueues: OwnedLayer<QueueLaw<SleepEdit<LockEdit>>> {
 
     /// As `open` of [`OpensLocks`].
     ///
-    /// Requires: there are one to `CPUS` CPUs, at most `BUFFERS` capacities, each from 1 to
-    /// `CAPACITY`, and at most `THREADS` homes, each one of the CPUs.
+    /// Requires: there are 1 to `CPUS` CPUs, and at most `BUFFERS` capacities, each from 1 to
+    /// `CAPACITY`. There are at most `THREADS` homes, each one of the CPUs.
     ///
-    /// Errors: `NoMemory` where an allocation was refused.
+    /// Errors: `NoMemory` if an allocation failed.
     fn open(
         alloc: Global,
         cpus: u8,
@@ -76,7 +78,8 @@ pub trait OpensQueues: OwnedLayer<QueueLaw<SleepEdit<LockEdit>>> {
         ensures holders { IfOk result (λ m. (c : CpuId) → Self.MayHold m c → ⊥) };
 }
 
-/// Schedulers whose machine is opened with the locks of buffers, and that tell of its blocks.
+/// Schedulers whose machine is opened with the locks of buffers, and which report the machine's
+/// blocks.
 pub trait OpensScheds: OwnedLayer<SchedLaw<SleepEdit<LockEdit>>> {
     ghost use Rattle.event_log.specs.declared.ids.{CpuId.CpuId, LockId.TheVariants.Pending, TheConstants.CPUS};
     ghost use Rattle.layer_traits.specs.{Blocks.{BufferEffects.opening_locks, QueueBlocks.{homes_in, inner}}, Views.{Openings.AreOpenable, Renaming.viewed}};
@@ -84,10 +87,10 @@ pub trait OpensScheds: OwnedLayer<SchedLaw<SleepEdit<LockEdit>>> {
 
     /// As `open` of [`OpensLocks`].
     ///
-    /// Requires: there are one to `CPUS` CPUs, at most `BUFFERS` capacities, each from 1 to
-    /// `CAPACITY`, and at most `THREADS` homes, each one of the CPUs.
+    /// Requires: there are 1 to `CPUS` CPUs, and at most `BUFFERS` capacities, each from 1 to
+    /// `CAPACITY`. There are at most `THREADS` homes, each one of the CPUs.
     ///
-    /// Errors: `NoMemory` where an allocation was refused.
+    /// Errors: `NoMemory` if an allocation failed.
     fn open(
         alloc: Global,
         cpus: u8,
@@ -107,20 +110,21 @@ pub trait OpensScheds: OwnedLayer<SchedLaw<SleepEdit<LockEdit>>> {
         ensures holders { IfOk result (λ m. (c : CpuId) → Self.MayHold m c → ⊥) };
 }
 
-/// A layer of sections that put threads to sleep, whose machine is opened with the locks of buffers,
-/// and tells of its blocks.
+/// A layer of sections that put threads to sleep, whose machine is opened with the locks of
+/// buffers, and which reports the machine's blocks.
 pub trait OpensLocks: OwnedThreadLayer<SleepLaw<LockEdit>> {
     ghost use Rattle.event_log.specs.declared.ids.{CpuId.CpuId, LockId.TheVariants.Pending, TheConstants.CPUS};
     ghost use Rattle.layer_traits.specs.{Blocks.{BufferEffects.opening_locks, QueueBlocks.{homes_in, inner}}, Views.{Openings.AreOpenable, Renaming.viewed}};
     ghost use Rattle.queuing_lock.specs.Nested.{nested_lock_of};
 
     /// A machine of so many CPUs, with the lock of a buffer for each of these capacities and a
-    /// thread of each of these homes, and with room for `room` polls. All memory is taken here.
+    /// thread of each of these home CPUs. It has room for `room` polls. All memory is allocated
+    /// here.
     ///
-    /// Requires: there are one to `CPUS` CPUs, at most `BUFFERS` capacities, each from 1 to
-    /// `CAPACITY`, and at most `THREADS` homes, each one of the CPUs.
+    /// Requires: there are 1 to `CPUS` CPUs, and at most `BUFFERS` capacities, each from 1 to
+    /// `CAPACITY`. There are at most `THREADS` homes, each one of the CPUs.
     ///
-    /// Errors: `NoMemory` where an allocation was refused.
+    /// Errors: `NoMemory` if an allocation failed.
     fn open(
         alloc: Global,
         cpus: u8,

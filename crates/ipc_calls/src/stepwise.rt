@@ -1,5 +1,5 @@
-//! The tower is stepwise: each layer's polls are single actions where those beneath it are. All
-//! here are laws, with nothing to run.
+//! The tower is stepwise: each layer's polls are single actions if those of the layers below are.
+//! Everything here is a law; nothing is executed.
 
 use crate::ipc::Ipc;
 use crate::opening::{LockEdit, OpensBuffers, OpensLocks, OpensQueues, OpensScheds};
@@ -68,8 +68,8 @@ impl<B: StepwiseBuffers> Stepwise for Ipc<B> {
     ghost steps = { B.steps };
 }
 
-/// A law: each poll of a stepwise layer is one action, and so of the tower over the locks of an
-/// owned machine, ticket locks or locks with grant words, which is one.
+/// A law: each poll of a stepwise layer is one action. The tower over the locks of an owned machine
+/// is such a layer, with ticket locks or with grant words.
 pub fn tower_is_stepwise<I: Stepwise>()
     ensures { I.IsStepwise }
 {}

@@ -1,5 +1,5 @@
 //! The tower of layers, from buffers down to critical sections, over one machine. `tower_blocks`
-//! and `open` take memory. No call waits.
+//! and `open` allocate. No function blocks.
 
 ghost use Rattle.std.specs.Prelude.{◌≡◌, ◌<◌, ◌≤◌, [], None, IsSome, IfOk, length, replicate};
 ghost use Rattle.event_log.specs.declared.ids.{CpuId.CpuId, LockId.TheVariants.Pending, TheConstants.{BUFFERS, THREADS}};
@@ -28,22 +28,22 @@ use std::marker::PhantomData;
 /// What a section of the tower does to the block of its lock.
 pub type TowerEdit = QueueEdit<SleepEdit<LockEdit>>;
 
-/// What layers hand on of a [`TowerEdit`]: its message lies in the payload.
+/// The form in which layers pass a [`TowerEdit`] down: its message is in the payload.
 pub type TowerHanded = QueueEdit<SleepEdit<QLockEdit<CvEdit<BareBufferEdit>, CvLeave>>>;
 
-/// What a lock of the tower guards: a pending queue, or a buffer under its lock and waiting lists.
+/// What a lock of the tower guards: a pending queue, or a buffer under its lock and wait lists.
 pub type TowerBlock = QueueBlock<SleepBlock<QBlock<BufferBlock>>>;
 
 /// One CPU's part of the layers from buffers down to shared queues, over a part `L` of critical
 /// sections.
 pub type TowerOver<L> = Fifo<Cond<QLock<Sleeper<LockEdit, Sched<SharedQueues<L>>>>>>;
 
-/// The law of the tower's locks, with the type of its events. A function that hands a lock on to the
-/// tower names them, since the check looks for them there.
+/// The law of the tower's locks, with the type of its events. A function that passes a lock to the
+/// tower names this type, because the check looks for the law there.
 pub type TowerLockLaws = PhantomData<(LockLaw<TowerEdit>, SectionOf<TowerEdit>)>;
 
-/// The laws of the tower's layers, with the types that their clauses name. A function that makes a part
-/// of the tower names them, since the check looks for them there.
+/// The laws of the tower's layers, with the types that their clauses name. A function that makes a
+/// part of the tower names this type, because the check looks for the laws there.
 pub type TowerLaws = PhantomData<
     (
         LockLaw<TowerEdit>,
@@ -66,14 +66,14 @@ pub type TowerLaws = PhantomData<
     ),
 >;
 
-/// The locks of the tower at boot, each with its block: an empty pending queue for each of so many
-/// CPUs, and an empty buffer under a free lock for each of these capacities. `homes` holds the home
-/// of each thread. All memory that the blocks need is taken here.
+/// The locks of the tower at boot, each with its block. A CPU's block is an empty pending queue;
+/// that of a capacity is an empty buffer under a free lock. `homes` holds the home CPU of each
+/// thread. All memory that the blocks need is allocated here.
 ///
-/// Requires: there are one to `CPUS` CPUs, at most `BUFFERS` capacities, each from 1 to `CAPACITY`,
-/// and at most `THREADS` homes, each one of the CPUs.
+/// Requires: there are 1 to `CPUS` CPUs, and at most `BUFFERS` capacities, each from 1 to
+/// `CAPACITY`. There are at most `THREADS` homes, each one of the CPUs.
 ///
-/// Errors: `NoMemory` where an allocation was refused.
+/// Errors: `NoMemory` if an allocation failed.
 pub fn tower_blocks(
     alloc: Global,
     cpus: u8,
@@ -92,11 +92,11 @@ pub fn tower_blocks(
     queue_blocks(alloc, blocks, cpus, homes)
 }
 
-/// The part of `cpu` at boot, over a machine that has the locks of the tower, with a buffer of each of
-/// these capacities and a thread of each of these homes, and in which nothing was done. The CPU has
-/// nothing under way and no thread has called, so any thread may begin a call there.
+/// The part of `cpu` at boot, over a machine in which nothing was done. The machine has the locks
+/// of the tower, with a buffer of each of these capacities and a thread of each of these home CPUs.
+/// The CPU has nothing under way and no thread has called, so any thread may begin a call there.
 ///
-/// Requires: nothing was done in the machine, its holder acts for the CPU, and it opened with the
+/// Requires: nothing was done in the machine, and its holder acts for the CPU. It opened with the
 /// locks of the tower: these homes, an empty buffer of each of these capacities, at most `BUFFERS`,
 /// and a pending queue of the CPU.
 pub fn part_over<L: Layer<LockLaw<TowerEdit>>>(
@@ -123,7 +123,7 @@ pub fn part_over<L: Layer<LockLaw<TowerEdit>>>(
     Ipc::part(cpu, homes, caps.len() as u8)
 }
 
-// One impl a layer: the check of an impl over several layers passes its limit.
+// One impl for each layer, because the check of an impl over several layers exceeds its limit.
 impl<L: OwnedLocks<TowerEdit>> OpensQueues for SharedQueues<L> {
     fn open(
         alloc: Global,

@@ -1,12 +1,12 @@
-//! Message calls over buffers of which each poll is a whole call are whole too. This is a law,
-//! with nothing to run.
+//! Message calls are whole (one poll is one call) if the polls of their buffers are. This is a law;
+//! nothing is executed.
 
 use crate::ipc::Ipc;
 use crate::opening::OpensBuffers;
 use layer_traits::Prompt;
 
-/// Buffers of which each poll is a whole call: it takes effect at the first poll at which its buffer
-/// allows it.
+/// Buffers of which each poll is a whole call: it takes effect at the first poll at which its
+/// buffer allows it.
 pub trait WholeBuffers: OpensBuffers {
     /// Law: one poll is one call.
     ghost whole: { Self.IsWhole };
@@ -16,8 +16,8 @@ impl<B: WholeBuffers> Prompt for Ipc<B> {
     ghost whole = { B.whole };
 }
 
-/// A law: each poll of a prompt layer is a whole call, and so of message calls over one-step buffers,
-/// which are one.
+/// A law: each poll of a prompt layer is a whole call. Message calls over one-step buffers are such
+/// a layer.
 pub fn calls_are_whole<I: Prompt>()
     ensures { I.IsWhole }
 {}

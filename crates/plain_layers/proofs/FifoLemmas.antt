@@ -1,4 +1,5 @@
--- Polls of buffers in one section a call: what they add to the effects and to the moves, and what they leave of the parts.
+-- Polls of buffers in one section a call: what they add to the effects and to the moves, and what
+-- they leave of the parts.
 use Rattle.std.proofs.Common.{◌≡◌, ◌≢◌, ℕ, ◌<◌, inl, inr, Bool, true, false, List, [], ◌∷◌, ◌++◌, length, Option, Some, None, IsSome, is_some, option_map}
 use Rattle.std.proofs.{Common.{if◌then◌else◌, refl, ap, sym, ◌∙◌, subst, option_to_list, ◌≤◌, replicate, slice_set, arith}, lemmas.Bool.{eqb-true, eqb-false}}
 use Rattle.std.proofs.lemmas.{Bool.lt-ltb, List.{get_or-set_same, get_or-set_other}, Option.slice_get_within}
@@ -23,12 +24,12 @@ use Rattle.layer_traits.specs.declared.scheds.SchedCall.TheVariants as sched
 
 -- A machine at the start.
 
--- where there was no move there was no event
+-- if there was no move, there was no event
 pub no_events : {E B O : Type 0} (k : Kernel E B O) (past : List (QueueEvent E)) → moves_in k past ≡ [] → past ≡ []
 no_events k [] none = refl
 no_events k (e ∷ past) none = absurd (cc none)
 
--- nobody waits at fresh buffers
+-- no thread waits at fresh buffers
 pub nobody_waits : (caps : List ℕ) (locks : LockId → Option PlainLocked) → locks ≡ fresh_buffers caps → NobodySleeps locks
 nobody_waits caps locks fresh lock wait_list = grind arith
 
@@ -39,7 +40,7 @@ owned_after ActsFor Acts opening opening' same acts owned = record { all = λ c 
 
 -- A pass.
 
--- a poll of a pass by who acts for every CPU
+-- a poll of a pass by a holder that acts for every CPU
 pub record PolledAlone (opening : LockId → Option (QueueBlock PlainLocked)) (ActsFor : CpuId → Type 0) (c : CpuId) (p : Pass) (result : Option (Unit {0}))
     (old new : List (QueueEvent Attempt)) (own own' : Threads) : Type 0 where
   pub all : (d : CpuId) → d.0 < CPUS → ActsFor d
@@ -83,7 +84,7 @@ module _ (opening : LockId → Option (QueueBlock PlainLocked)) (ActsFor : CpuId
         at_once = λ local. sym same ∙ moved.at_once local;
       }
 
--- a poll that answered leaves nothing under way
+-- a poll that returned a result leaves nothing under way
 pub nothing_under : {A B : Type 0} (r : Option A) (under x : Option B) → IsSome r → under ≡ (if is_some r then None else x) → under ≡ None
 nothing_under r under x answered is = grind arith
 
@@ -101,7 +102,7 @@ set_waits call_states t call effect within waits u = grind (arith, eqb-true, get
 
 -- A poll of a call.
 
--- who runs is one of the threads that a machine may have
+-- a running thread is one of the threads that a machine may have
 pub runs_small : (homes : List CpuId) (c : CpuId) (moves : List Step) (own : Threads) → AreMoves homes moves → Stands homes c moves own
     → length homes ≤ THREADS → (t : Tid) → own.current ≡ Some t → t.0 < THREADS
 runs_small homes c moves own legal stands room t runs =
@@ -111,15 +112,16 @@ runs_small homes c moves own legal stands room t runs =
 effect_kinds : (t : Tid) (call : Call) (x : PlainState) (f : Effect) → effect_in (attempt_told (attempt_of t call) x) ≡ Some f → IsEffectOf call f
 effect_kinds t call x f is = grind arith
 
--- who had no effect sleeps
+-- a thread that had no effect sleeps
 slept_current : (out : Tried) (own : Threads) → effect_in out ≡ None → (own_slept (wait_list_by out) own).current ≡ None
 slept_current out own given = grind arith
 
--- a call that answers nothing had no effect
+-- a call without a reply had no effect
 pub reply_none : (call : Call) (effect : Option Effect) → reply_to call effect ≡ None → effect ≡ None
 reply_none call effect given = grind arith
 
--- a kind that makes the reply of the call with its effect makes it with the call states that are left
+-- a kind that makes the reply of the call with its effect makes it with the call states that are
+-- left
 pub reply_left : (call_states : List CallState) (t : Tid) (call : Call) (effect : Option Effect) (kind : Option ReplyKind) → t.0 < length call_states
     → option_map (λ k. reply_with k effect) kind ≡ reply_to call effect
     → answer_in (slice_set call_states t.0 (call_state_after call effect)) t kind ≡ reply_to call effect
@@ -133,7 +135,7 @@ module _ (opening : LockId → Option (QueueBlock PlainLocked)) (c : CpuId) (b :
   effect_is : (x : Option PlainLocked) → option_map (sleep_answer attempts a) x ≡ Some outcome → effect_by a x ≡ effect_in outcome.out
   effect_is x is = grind arith
 
-  -- the effects grow by the call's own, if it has one
+  -- the effects grow by the call's, if it has one
   pub done_entries : plain_entries_in (inner opening) (buffer_sections new)
       ≡ option_to_list (option_map (entry_of c a.thread b) (effect_in outcome.out)) ++ plain_entries_in (inner opening) (buffer_sections old)
   done_entries = grind (arith, effect_is)
@@ -145,7 +147,7 @@ module _ (opening : LockId → Option (QueueBlock PlainLocked)) (c : CpuId) (b :
   pub done_deferred : left.deferred ≡ None
   done_deferred = grind arith
 
-  -- the moves grow by this CPU's own
+  -- the moves grow by this CPU's
   pub done_moves : (Acts : CpuId → Type 0) → MovesGrow Acts c (moves_in (sleep_kernel attempts opening) old) (moves_in (sleep_kernel attempts opening) new)
   done_moves Acts =
       let moves = moves_in (sleep_kernel attempts opening) in
@@ -186,7 +188,7 @@ module _ (opening : LockId → Option (QueueBlock PlainLocked)) (c : CpuId) (b :
       none_before : (call_state : CallState) → (call_state.stage ≢ Idle → call_state.effect ≡ None) → (going call_state call).effect ≡ None
       none_before call_state rests = grind arith
 
-  -- a call without an effect was refused: the buffer allows it none, and its thread sleeps
+  -- a call without an effect did not act: the buffer allows it none, and its thread sleeps
   pub done_refused : (t : Tid) (call : Call) → a ≡ attempt_of t call → b ≡ buffer_of call → inner opening ≡ fresh_buffers (caps_in (viewed plain_shown opening))
       → effect_in outcome.out ≡ None → IsRefused call (caps_in (viewed plain_shown opening)) (plain_entries_in (inner opening) (buffer_sections new))
   done_refused t call attempt at fresh none =

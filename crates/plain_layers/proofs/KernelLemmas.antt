@@ -1,4 +1,5 @@
--- The lists that all CPUs share: an allowed call can be done on them, and it keeps them in agreement with the calls.
+-- The lists that all CPUs share: an allowed call can be done on them, and it keeps them in
+-- agreement with the calls.
 use Rattle.std.proofs.Common.{◌≡◌, ◌≢◌, ℕ, ◌<◌, true, false, List, [], ◌∷◌, ◌++◌, length, slice_get, slice_set, ◌==◌, if◌then◌else◌, Option, Some, IsSome}
 use Rattle.std.proofs.{Common.{option_map, refl, ap, sym, ◌∙◌, subst, arith, Result, Ok, OnOk, replicate, reverse}, lemmas.Bool.{eq-eqb, eqb-true}}
 use Rattle.std.proofs.lemmas.{List.{get_or-replicate, length-replicate, reverse-append}, Option.{get_or_from_slice_get, slice_get-get_or, slice_get_within}}
@@ -19,16 +20,16 @@ use Rattle.layer_traits.specs.declared.scheds.SchedCall.TheVariants as sched
 pub log_grown : {A F X : Type 0} (r : Result A F) (a : A) (old new : List X) (x : X) → r ≡ Ok a → OnOk r (new ≡ old ++ x ∷ []) → reverse new ≡ x ∷ reverse old
 log_grown r a old new x is pushed = ap reverse (subst (λ o. OnOk o (new ≡ old ++ x ∷ [])) is pushed) ∙ reverse-append old (x ∷ [])
 
--- what is handed on of a call names the lock of the call that is meant
+-- the handed part of a call names the lock of the call that it means
 pub lock_handed : {H E : Type 0} (meant : H → Payload → E) (call : QueueCall H) (payload : Payload) → lock_of (call_meant meant call payload) ≡ lock_of call
 lock_handed meant call payload = grind arith
 
--- the buffer of a scheduler's call that is meant is there where that of what is handed on is
+-- the buffer of a scheduler's call exists if that of its handed part does
 pub there_meant : {H E B : Type 0} (meant : H → Payload → E) (opening : LockId → Option (QueueBlock B)) (call : SchedCall H) (payload : Payload)
     → BufferIsThere opening call → BufferIsThere opening (sched_meant meant call payload)
 there_meant meant opening call payload there = grind arith
 
--- what is handed on of a call can be done where that can which is meant
+-- the handed part of a call can be done if the call that it means can
 pub can_handed : {H E B : Type 0} (meant : H → Payload → E) (call : QueueCall H) (payload : Payload) (lists : Lists B)
     → CanDo (call_meant meant call payload) lists → CanDo call lists
 can_handed meant call payload lists can = grind arith
@@ -51,7 +52,7 @@ module _ {E B O : Type 0} (rules : Rules E B O) (mv : MoveRules E O) (wakes : Wa
   abbrev K : Kernel E B O
   K = kernel rules mv (opening_of start)
 
-  -- a queue that opened is there, and holds who is pending by the moves
+  -- a queue that opened is there, and holds the threads that the moves leave pending
   queue_is : (d : CpuId) → IsSome (opening_of start (Pending d)) → slice_get lists.pending.items d.0 ≡ Some (pending_by (moves_in K past) d)
   queue_is d there = grind arith
 
@@ -88,7 +89,7 @@ module _ {E B O : Type 0} (rules : Rules E B O) (mv : MoveRules E O) (wakes : Wa
       ≡ option_map (λ opened. if same_cpu d e then after e else pending_by (moves_in K past) e) (slice_get start.lists.value.pending.items e.0)
   queues_set d queue after new there sets is e = grind (arith, same_cpu_true, set_there, queue_within, set_else, not_equal)
 
-  -- an edit moves nobody into a queue
+  -- an edit moves no thread into a queue
   still : (b : BufId) (e : E) (queue : List Tid) (d : CpuId) (out : Option O) → pending_after (edit_move mv (Buffer b) e out) d queue ≡ queue
   still b e queue d out = grind arith
 
@@ -134,7 +135,7 @@ module _ {E B O : Type 0} (rules : Rules E B O) (mv : MoveRules E O) (wakes : Wa
         blocks = blocks_set b e was.0 c new was.1 was.2.0;
       }
 
-  -- and its answer is that of the calls
+  -- and its result is that of the calls
   pub kernel_answers : (call : QueueCall E) (new : Lists B) (answer : QueueAnswer O) → IsSome (opening_of start (lock_of call))
       → IsDone rules call lists new answer → answer_of K past call ≡ Some answer
   kernel_answers (Push d t) new answer there done = ap Some (sym done.1)
@@ -143,7 +144,7 @@ module _ {E B O : Type 0} (rules : Rules E B O) (mv : MoveRules E O) (wakes : Wa
       let was = done_block b e new answer there done in
       ap (λ o. option_map Answer (option_map (rules.answer e) o)) (sym (sound.blocks b) ∙ was.1) ∙ ap Some (sym was.3)
 
--- a machine opens with these lists and homes, and nobody is pending
+-- a machine opens with these lists and homes, and no thread is pending
 pub record OpensWith {B : Type 0} (start : Opening B) (lists : Lists B) (cpus : ℕ) (homes : List CpuId) : Type 0 where
   pub buffers : ℕ
   pub are : AreQueues cpus homes buffers

@@ -1,4 +1,4 @@
--- What holds of a machine, wherever one was opened.
+-- The facts of every opened machine.
 use Rattle.std.proofs.Common.{◌≡◌, refl, Result, Ok, Err, IfOk}
 
 pub where_ok : {M F : Type 0} (r : Result M F) (Q : M → Type 0) → ((m : M) → r ≡ Ok m → Q m) → IfOk r Q

@@ -1,4 +1,5 @@
--- A machine that opens with empty buffers, as one-step buffers read it and as their layer's trait shows it.
+-- A machine that opens with empty buffers, as one-step buffers read it and as their layer's trait
+-- shows it.
 use Rattle.std.proofs.{Common.{arith, ◌≡◌, ℕ, ◌≤◌, List, length, map, Option, option_map, slice_get, ap, sym, ◌∙◌, ◌*◌, ◌/◌, lit<}, Math.Nat.le-div_iff_mul-le}
 use Rattle.std.proofs.{Math.Path.fun_ext, lemmas.Option.slice_get-map}
 use Rattle.{event_log.specs.declared.ids.{BufId.BufId, LockId.{LockId, TheVariants.Buffer}}, layer_traits.specs.Blocks.Capacities.caps_in}
@@ -35,6 +36,6 @@ module _ (opening : LockId → Option (QueueBlock PlainLocked)) (caps : List ℕ
   pub boots_shown : inner (viewed plain_shown opening) ≡ opening_locks (caps_in (viewed plain_shown opening))
   boots_shown = fun_ext at_lock ∙ ap opening_locks (sym caps_observed)
 
--- there is room for so many calls where there is room for twice as many events
+-- there is room for so many calls if there is room for twice as many events
 pub half_room : (room events : ℕ) → room * 2 ≤ events → room ≤ events / 2
 half_room room events enough = (le-div_iff_mul-le {k = 2} (lit< tt)).1 enough

@@ -1,4 +1,5 @@
--- What a part of one-step queuing locks makes of its scheduler's answer is what the law says of it, as it is told.
+-- What a part of one-step queuing locks makes of its scheduler's result is what the law says, as
+-- the layer above sees it.
 use Rattle.std.proofs.Common.{arith, ◌≡◌, List, Option, Some, None, IsSome, is_some, if◌then◌else◌, option_map}
 use Rattle.{event_log.specs.declared.ids.{BufId.BufId, Tid.Tid}, layer_traits.specs.declared.{locked.{QEdit.QEdit, QOut.QOut}, passes.Pass.Pass as PassCall}}
 use Rattle.layer_traits.specs.declared.{payloads.{Parcel.Parcel, Payload.Payload}, queues.QueueEvent.QueueEvent, scheds.SchedAnswer.SchedAnswer}
@@ -23,7 +24,7 @@ no_answer : {O : Type 0} (o : Option O) → option_map Answer o ≡ Some Done �
 no_answer o is = grind (arith, is)
 
 module _ {F R P O : Type 0} (told : P → Parcel → O) where
-  -- where the scheduler's call is done something was kept
+  -- if the scheduler's call is done, something was kept
   pub done_keeps : {B : Type 0} (k : Kernel (SleepEdit (QLockEdit F R)) B (Outcome (QOut O))) (past : List (QueueEvent (SleepEdit (QLockEdit F R)))) (b : BufId)
       (d : SleepEdit (QLockEdit F R)) (kept : Option (Unanswered (SleepEdit (QLockEdit F R)) (QOut P))) (hand : Option Tid)
       → HandDefers hand (outcome_in (kept_told told kept)) → answer_to k past (due hand b d) ≡ Some Done → IsSome kept

@@ -1,4 +1,5 @@
--- The list of blocks: the slot of a lock in it, what an edit at that slot leaves, and that a section keeps the list in agreement.
+-- The list of blocks: the slot of a lock in it, what an edit at that slot leaves, and that a
+-- section keeps the list in agreement.
 use Rattle.std.proofs.Common.{◌≡◌, ℕ, zero, suc, ◌+◌, ◌<◌, true, false, List, [], ◌∷◌, length, get_or, drop, slice_set, if◌then◌else◌, Option, Some}
 use Rattle.std.proofs.Common.{IsSome, option_map, sym, subst, arith}
 use Rattle.event_log.{specs.{declared.ids.LockId.LockId, History.same_lock, Sections.Section}, proofs.Same.{same_lock_self, same_lock_true}}

@@ -1,4 +1,5 @@
--- The polls of a whole section: the first does it, and answers unless the woken thread is still to be sent home; the second does that.
+-- The polls of a whole section: the first does it, and returns the result unless the woken thread
+-- is yet to be forwarded to its home CPU; the second forwards it.
 use Rattle.std.proofs.Common.{arith, ◌≡◌, ◌<◌, true, false, List, [], ◌∷◌, ◌++◌, Option, Some, None, IsSome, refl}
 use Rattle.event_log.{specs.{declared.ids.{CpuId.CpuId, Tid.Tid, TheConstants.CPUS}, History.{AreForeign, IsLawful, same_cpu}}, proofs.Same.same_cpu_self}
 use Rattle.layer_traits.specs.declared.{queues.{QueueCall.TheVariants.{Push, OnBuffer}, QueueEvent.QueueEvent}, sleeps.Outcome.Outcome}
@@ -7,7 +8,7 @@ use Rattle.layer_traits.specs.Layers.{Queues.{cpu_of_queue_event, out_at}, Sched
 use Rattle.{layer_traits.specs.Layers.SleepLaw.{Sleeping, WaitsStill, left_with, must_send, seen_with}, plain_layers.specs.Wholes.{Asked, DoneAlone}}
 use Rattle.plain_layers.specs.Wholes.{DoneSending}
 
--- who acts for every CPU sees no event of another
+-- a holder that acts for every CPU sees no environment event
 pub no_foreign_events : {E : Type 0} (ActsFor : CpuId → Type 0) → ((c : CpuId) → c.0 < CPUS → ActsFor c) → (others old : List (QueueEvent E))
     → IsLawful IsKnownEvent (others ++ old) → AreForeign ActsFor cpu_of_queue_event others → others ≡ []
 no_foreign_events ActsFor all [] old known foreign = refl
@@ -16,7 +17,8 @@ no_foreign_events ActsFor all (e ∷ others) old known foreign =
     let itself : same_cpu e.cpu e.cpu ≡ true = same_cpu_self e.cpu in
     absurd (cc (other, itself))
 
--- what the first poll of a section leaves where it does not answer: the section is done, and its outcome is kept
+-- what the first poll of a section leaves if it returns no result: the section is done, and its
+-- outcome is kept
 pub record Begun {E B O : Type 0} (s : Asked E B O) (old new : List (QueueEvent E)) (own : Threads) (outcome : Outcome O) (left : Sleeping O) : Type 0 where
   pub out : out_at s.kernel old s.buffer s.edit ≡ Some outcome
   pub sends : must_send outcome (own_answered s.kernel.moves s.kernel.homes s.cpu (Some outcome) own) ≡ true
@@ -24,7 +26,7 @@ pub record Begun {E B O : Type 0} (s : Asked E B O) (old new : List (QueueEvent 
   pub leaves : left ≡ record { threads = own_answered s.kernel.moves s.kernel.homes s.cpu (Some outcome) own; deferred = Some outcome }
 
 module _ {E B O : Type 0} (s : Asked E B O) (ActsFor : CpuId → Type 0) (all : (c : CpuId) → c.0 < CPUS → ActsFor c) (old new : List (QueueEvent E)) where
-  -- the CPU's own threads after a section with this outcome
+  -- the CPU's scheduling state after a section with this outcome
   abbrev threads_after : Threads → Outcome O → Threads
   threads_after own told = own_answered s.kernel.moves s.kernel.homes s.cpu (Some told) own
 
@@ -49,7 +51,7 @@ module _ {E B O : Type 0} (s : Asked E B O) (ActsFor : CpuId → Type 0) (all : 
   abbrev got : Sleeping O → Option (Outcome O) → Left (Sleeping O) (Outcome O)
   got left answer = record { own = left; answer = answer }
 
-  -- the first poll answers: the section is done
+  -- the first poll returns a result: the section is done
   pub first_answers : (own left : Sleeping O) (outcome : Outcome O) → own.deferred ≡ None → IsLawful IsKnownEvent new
       → SleepPolled s.kernel ActsFor s.cpu s.buffer s.edit old new own (got left (Some outcome)) → DoneAlone s old new own.threads left outcome
   first_answers own left outcome deferred known polled =
@@ -60,7 +62,8 @@ module _ {E B O : Type 0} (s : Asked E B O) (ActsFor : CpuId → Type 0) (all : 
       → Begun s old new own.threads told left
   begins own left told may is leaves = grind arith
 
-  -- the first poll does not answer: the section is done, and whom it woke is to be sent home
+  -- the first poll returns no result: the section is done, and the thread that it woke is yet to be
+  -- forwarded
   pub first_sends : (own left : Sleeping O) → own.deferred ≡ None → IsSome left.deferred → IsLawful IsKnownEvent new
       → SleepPolled s.kernel ActsFor s.cpu s.buffer s.edit old new own (got left None) → (outcome : Outcome O) × Begun s old new own.threads outcome left
   first_sends own left deferred keeps known polled = go was.poll_result was.may was.is was.leaves
@@ -75,7 +78,7 @@ module _ {E B O : Type 0} (s : Asked E B O) (ActsFor : CpuId → Type 0) (all : 
       go (SendsHome t) may is leaves = absurd (grind arith)
       go (Does told) may is leaves = (told, begins own left told may is leaves)
 
-  -- the second poll sends it home, and answers with the outcome of the section
+  -- the second poll forwards the thread to its home CPU, and returns the outcome of the section
   pub second_sends : (own left : Sleeping O) (deferred outcome : Outcome O) → own.deferred ≡ Some deferred → IsLawful IsKnownEvent new
       → SleepPolled s.kernel ActsFor s.cpu s.buffer s.edit old new own (got left (Some outcome))
       → (t : Tid) × (own.threads.hand ≡ Some t) × (outcome ≡ deferred) × (new ≡ event s.cpu (Push (queue_for s.kernel.homes s.cpu t) t) ∷ old)

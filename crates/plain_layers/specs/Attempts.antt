@@ -1,6 +1,7 @@
--- A message call as one section on its buffer: a call that the buffer allows takes effect and wakes at most one thread; any other waits
--- on its own side. A close cannot wake both sides at once, so those who wait at a closed buffer are let go one after the other: a close
--- wakes the first of them, and each that goes wakes the next.
+-- A message call as one section on its buffer. A call that the buffer allows takes effect and wakes
+-- at most one thread; any other waits on its own side. A close cannot wake both sides at once, so
+-- the waiters of a closed buffer are released one after the other: a close wakes the first of them,
+-- and each that is released wakes the next.
 use Rattle.std.specs.Prelude.{ℕ, Bool, true, false, ◌&&◌, ◌||◌, List, [], length, nat_lt, Option, Some, None, is_some, if◌then◌else◌}
 use Rattle.{event_log.specs.{declared.ids.Tid.Tid, Messages.{Message, no_message}}, thread_blocks.specs.Queues.{first, rest}}
 use Rattle.layer_traits.specs.declared.{calls.Effect.Effect, locked.Side.{Side, TheVariants.{Receivers, Senders}}, moves.WaitList.WaitList, sleeps.Wake.Wake}
@@ -10,8 +11,8 @@ use Rattle.plain_layers.specs.declared.attempts.Tried.{Tried, TheVariants.{Acted
 use Rattle.event_log.specs.declared.entries.Kind.TheVariants as kind
 use Rattle.layer_traits.specs.declared.sleeps.Wake.TheVariants as leave
 
--- a buffer: its items, first in front; how many there is room for; whether it is closed; how many effects, sends, receives and closes it
--- had, modulo 2^64; and who waits at it, first in front
+-- a buffer: its items, head first; its capacity; whether it is closed; how many effects, sends,
+-- receives and closes it had, modulo 2^64; and the threads that wait at it, head first
 pub record PlainState : Type 0 where
   pub items : List Message
   pub capacity : ℕ
@@ -37,12 +38,12 @@ plain_empty_buffer capacity = record {
   senders = [];
 }
 
--- who waits on this side
+-- the threads that wait on this side
 abbrev pub waiting_on : Side → PlainState → List Tid
 waiting_on Receivers x = x.receivers
 waiting_on Senders x = x.senders
 
--- the side of a call; who closes stands with the receivers, whom a close lets go first
+-- the side of a call; a close has that of the receivers, which it wakes first
 abbrev pub attempt_side : Ask → Side
 attempt_side (Send m) = Senders
 attempt_side Receive = Receivers
@@ -52,8 +53,8 @@ abbrev pub far_side : Side → Side
 far_side Receivers = Senders
 far_side Senders = Receivers
 
--- whether a call may take effect: a send where there is room, a receive where there is an item, both where the buffer is closed; a close
--- always
+-- whether a call may take effect: a send if there is room, a receive if there is an item, both if
+-- the buffer is closed; a close always
 abbrev pub allows : Ask → PlainState → Bool
 allows (Send m) x = x.closed || nat_lt (length x.items) x.capacity
 allows Receive x = x.closed || nat_lt 0 (length x.items)
@@ -72,32 +73,32 @@ closed_after (Send m) x = x.closed
 closed_after Receive x = x.closed
 closed_after Close x = true
 
--- the side of which an effect of a side wakes the first, if somebody waits there: the other side; but where the buffer is closed its own,
--- while somebody waits on that
+-- The side of which an effect wakes the first thread, if one waits there. It is the other side; if
+-- the buffer is closed, its own side as long as a thread waits on that.
 abbrev pub waking_by : Bool → Side → PlainState → Side
 waking_by closed own x = if closed && is_some (first (waiting_on own x)) then own else far_side own
 
 abbrev pub waking : Ask → PlainState → Side
 waking ask x = waking_by (closed_after ask x) (attempt_side ask) x
 
--- who leaves, where this one of a side is woken
+-- the thread that leaves, if this one of a side is woken
 abbrev pub leaving_side : Side → Option Tid → Wake
 leaving_side side None = leave.Nobody
 leaving_side Receivers (Some t) = leave.Receiver t
 leaving_side Senders (Some t) = leave.Sender t
 
--- who is woken by the effect of a call
+-- the thread that the effect of a call wakes
 abbrev pub attempt_wakes : Ask → PlainState → Wake
 attempt_wakes ask x = leaving_side (waking ask x) (first (waiting_on (waking ask x) x))
 
--- who waits on a side once the first of a side was woken
+-- the threads that wait on a side after the first of a side was woken
 abbrev pub wait_list_left : Side → Side → List Tid → List Tid
 wait_list_left Receivers Receivers queue = rest queue
 wait_list_left Receivers Senders queue = queue
 wait_list_left Senders Receivers queue = queue
 wait_list_left Senders Senders queue = rest queue
 
--- the buffer once the first of this side was woken
+-- the buffer after the first of this side was woken
 abbrev pub attempt_woken : Side → PlainState → PlainState
 attempt_woken side x = record x { receivers = wait_list_left Receivers side x.receivers; senders = wait_list_left Senders side x.senders }
 
@@ -108,7 +109,7 @@ done (Send m) x =
 done Receive x = record (attempt_woken (waking Receive x) x) { items = other_items x.items; effects = counted x.effects; receives = counted x.receives }
 done Close x = record (attempt_woken (waking Close x) x) { closed = true; effects = counted x.effects; closes = counted x.closes }
 
--- the buffer once this thread waits on a side
+-- the buffer after this thread joined the waiters of a side
 abbrev pub with_waiter : Tid → Side → PlainState → PlainState
 with_waiter t Senders x = record x { senders = joined t x.senders }
 with_waiter t Receivers x = record x { receivers = joined t x.receivers }
@@ -117,11 +118,11 @@ with_waiter t Receivers x = record x { receivers = joined t x.receivers }
 abbrev pub attempted : Attempt → PlainState → PlainState
 attempted a x = if allows a.ask x then done a.ask x else with_waiter a.thread (attempt_side a.ask) x
 
--- what an attempt answers
+-- the result of an attempt
 abbrev pub attempt_told : Attempt → PlainState → Tried
 attempt_told a x = if allows a.ask x then Acted (attempt_effect a.ask x) (attempt_wakes a.ask x) else Refused (attempt_side a.ask)
 
--- the effect of an attempt that answered this, if it had one
+-- the effect of an attempt with this result, if it had one
 abbrev pub effect_in : Tried → Option Effect
 effect_in (Acted effect woke) = Some effect
 effect_in (Refused side) = None
@@ -131,7 +132,7 @@ abbrev pub wait_list_by : Tried → Option WaitList
 wait_list_by (Acted effect woke) = None
 wait_list_by (Refused side) = wait_list_for (Some side)
 
--- who leaves one
+-- the thread that leaves one
 abbrev pub attempt_left_by : Tried → Wake
 attempt_left_by (Acted effect woke) = woke
 attempt_left_by (Refused side) = leave.Nobody

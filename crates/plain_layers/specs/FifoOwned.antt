@@ -1,8 +1,9 @@
--- What is read off a buffer's lock where a call is one section: its items, whether it is closed, and its waiting lists; nobody owns it.
+-- What is read from a buffer's lock if a call is one section: its items, whether it is closed, and
+-- its wait lists; no thread owns it.
 use Rattle.{std.specs.Prelude.{Bool, List, Option, Some, None}, event_log.specs.{declared.ids.Tid.Tid, Messages.Message}}
 use Rattle.{layer_traits.specs.{declared.moves.WaitList.WaitList, Layers.Sleeping.wait_list_at}, plain_layers.specs.Fifos.PlainLocked}
 
--- the items of a lock's buffer, whether it is closed, and its waiting lists
+-- the items of a lock's buffer, whether it is closed, and its wait lists
 abbrev pub plain_items_in : PlainLocked → List Message
 plain_items_in state = state.above.items
 
@@ -15,6 +16,6 @@ plain_wait_lists_of state line = wait_list_at line (Some state)
 abbrev pub nobody : Option Tid
 nobody = None
 
--- a part tells no owner
+-- a part reports no owner
 abbrev pub nothing_read : Option (Option Tid)
 nothing_read = None

@@ -1,4 +1,5 @@
--- Buffers in one section a call: which section a call is, what it leaves, and what a machine of such sections shows.
+-- Buffers with one section a call: which section a call is, what it leaves, and what a machine of
+-- such sections shows.
 use Rattle.std.specs.Prelude.{◌≡◌, ◌≢◌, ℕ, ◌<◌, List, [], ◌∷◌, ◌++◌, length, Option, Some, None, option_map, option_to_list, replicate, slice_get}
 use Rattle.event_log.specs.declared.{entries.Entry.Entry, ids.{BufId.BufId, CpuId.CpuId, LockId.{LockId, TheVariants.{Pending, Buffer}}, Tid.Tid}}
 use Rattle.{event_log.specs.{declared.ids.TheConstants.{CPUS, THREADS}, Sections.{Section, block_after}}, layer_traits.specs.declared.calls.Call.Call}
@@ -10,7 +11,7 @@ use Rattle.{layer_traits.specs.Views.Renaming.viewed, plain_layers.specs.{declar
 use Rattle.plain_layers.specs.Attempts.{attempts, effect_in, plain_empty_buffer, attempt_told}
 use Rattle.plain_layers.specs.declared.attempts.Ask.TheVariants as ask
 
--- a buffer with the waiting lists of its lock
+-- a buffer with the wait lists of its lock
 abbrev pub PlainLocked : Type 0
 PlainLocked = SleepState PlainState
 
@@ -52,7 +53,7 @@ abbrev pub plain_entries_in : (LockId → Option PlainLocked) → List (Section 
 plain_entries_in opening [] = []
 plain_entries_in opening (s ∷ past) = option_to_list (entry_at s.cpu s.lock s.edit (locked_after opening s.lock past)) ++ plain_entries_in opening past
 
--- a buffer with room for so many items, at which nobody waits
+-- a buffer with room for so many items, at which no thread waits
 abbrev pub fresh_buffer : ℕ → PlainLocked
 fresh_buffer capacity = record { sleepers = []; receivers = []; senders = []; above = plain_empty_buffer capacity }
 
@@ -61,11 +62,12 @@ abbrev pub fresh_buffers : List ℕ → LockId → Option PlainLocked
 fresh_buffers caps (Pending d) = None
 fresh_buffers caps (Buffer b) = option_map fresh_buffer (slice_get caps b.0)
 
--- who waits at a buffer
+-- the threads that wait at a buffer
 abbrev pub wait_lists_in : (LockId → Option PlainLocked) → List (Section Attempt) → BufId → WaitList → List Tid
 wait_lists_in opening past b line = wait_list_at line (locked_after opening (Buffer b) past)
 
--- a buffer as the layer's trait shows it: its lock has no owner, and nobody stands in the lines of the block
+-- a buffer as the layer's trait shows it: its lock has no owner, and the lines of the block are
+-- empty
 abbrev pub plain_shown : PlainLocked → BufferLock
 plain_shown state = record {
   owner = None;
@@ -90,14 +92,15 @@ pub record IsOwned (ActsFor : CpuId → Type 0) (opening : LockId → Option (Qu
   pub all : (c : CpuId) → c.0 < CPUS → ActsFor c
   pub fresh : inner opening ≡ fresh_buffers (caps_in (viewed plain_shown opening))
 
--- between its polls a part has nothing begun; and a thread has an effect only once its call is over
+-- between its polls a part has nothing begun; and a thread has an effect only after its call is
+-- over
 pub record RestsBetweenPolls (under : Option (SchedCall Attempt)) (own : Sleeping Tried) (call_states : List CallState) : Type 0 where
   pub none : under ≡ None
   pub deferred : own.deferred ≡ None
   pub waits : (t : Tid) → (call_state_of call_states t).stage ≢ Idle → (call_state_of call_states t).effect ≡ None
   pub slots : length call_states ≡ THREADS
 
--- what a part has of its own, as the layer's trait shows it
+-- a part's private state, as the layer's trait shows it
 abbrev pub plain_own_of : Threads → List CallState → Buffering
 plain_own_of threads call_states = buffering (record {
   lock = record { sleep = record { threads = threads; deferred = None }; slept = replicate THREADS None };

@@ -12,20 +12,21 @@ use Rattle.plain_layers.specs.declared.kernel.{Lists.Lists, Opening.Opening, Pla
 abbrev pub calls_in : {E B O H A : Type 0} → PlainKernel E B O H A → List (QueueEvent E)
 calls_in m = reverse (events_in m.log)
 
--- for how many more calls there is room
+-- how many more calls there is room for
 abbrev pub call_room : {E B O H A : Type 0} → PlainKernel E B O H A → ℕ
 call_room m = room_of m.log - length (events_in m.log)
 
--- the opening block of each lock: a pending queue that tells the homes, or a buffer's block
+-- the opening block of each lock: a pending queue with the home CPUs, or a buffer's block
 abbrev pub opening_of : {B : Type 0} → Opening B → LockId → Option (QueueBlock B)
 opening_of start (Pending c) = option_map (λ queue. Queue queue start.homes) (slice_get start.lists.value.pending.items c.0)
 opening_of start (Buffer b) = option_map Above (slice_get start.lists.value.buffers.items b.0)
 
--- the pending threads of a CPU, front first
+-- the pending threads of a CPU, head first
 abbrev pub pending_in : {B : Type 0} → Lists B → CpuId → List Tid
 pending_in lists d = slice_index_or lists.pending.items d.0 []
 
--- a call can be done on the lists: its list is there, and who is pushed does not stand in the queue
+-- a call can be done on the lists: its list is there, and a thread that is pushed is not in the
+-- queue
 abbrev pub CanDo : {E B : Type 0} → QueueCall E → Lists B → Type 0
 CanDo (Push d t) lists = (d.0 < length lists.pending.items) × (t.0 < THREADS) × (is_in t (pending_in lists d) ≡ false)
 CanDo (TakeAll d) lists = d.0 < length lists.pending.items
@@ -39,14 +40,15 @@ SetsQueue d queue old new = (new.pending.items ≡ slice_set old.pending.items d
 abbrev pub SetsBlock : {B : Type 0} → BufId → B → Lists B → Lists B → Type 0
 SetsBlock b block old new = (new.buffers.items ≡ slice_set old.buffers.items b.0 block) × (new.pending.items ≡ old.pending.items)
 
--- a call was done on the lists, with this answer
+-- a call was done on the lists, with this result
 abbrev pub IsDone : {E B O : Type 0} → Rules E B O → QueueCall E → Lists B → Lists B → QueueAnswer O → Type 0
 IsDone rules (Push d t) old new answer = SetsQueue d (pending_in old d ++ t ∷ []) old new × (answer ≡ Done)
 IsDone rules (TakeAll d) old new answer = SetsQueue d [] old new × (answer ≡ Taken (pending_in old d))
 IsDone rules (OnBuffer b e) old new answer =
     IfSome (slice_get old.buffers.items b.0) (λ block. SetsBlock b (rules.edited e block) old new × (answer ≡ Answer (rules.answer e block)))
 
--- a machine is sound: it opened well formed, its calls kept the protocol, and its lists are those that they leave
+-- a machine is sound: it opened well formed, its calls kept the protocol, and its lists are those
+-- that they leave
 pub record IsKernel {E B O : Type 0} (rules : Rules E B O) (mv : MoveRules E O) (start : Opening B)
     (past : List (QueueEvent E)) (lists : Lists B) : Type 0 where
   pub starts : StartsWell (opening_of start)
@@ -60,6 +62,6 @@ pub record IsKernel {E B O : Type 0} (rules : Rules E B O) (mv : MoveRules E O) 
 abbrev pub HasKernel : {E B O H A : Type 0} → Rules E B O → MoveRules E O → PlainKernel E B O H A → CpuId → Type 0
 HasKernel rules mv m c = (c.0 < CPUS) × IsKernel rules mv m.opening (calls_in m) m.lists
 
--- nobody has to know a machine again, so no numbers tell which it is
+-- no client distinguishes machines, so no numbers identify one
 abbrev pub no_site : List ℕ
 no_site = []

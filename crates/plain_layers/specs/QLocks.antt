@@ -1,5 +1,5 @@
--- The queuing lock in one step: what its calls mean as edits of plain data, and what a part keeps of a call that is done and not
--- answered yet.
+-- The queuing lock in one step: its calls as edits of plain data, and what a part keeps of a call
+-- that is done and has not returned.
 use Rattle.std.specs.Prelude.{Bool, not, ◌&&◌, List, [], Option, Some, None, is_some, option_map, if◌then◌else◌}
 use Rattle.{event_log.specs.declared.ids.{BufId.BufId, CpuId.CpuId, LockId.LockId, Tid.Tid}, layer_traits.specs.declared.locked.{QEdit.QEdit, QOut.QOut}}
 use Rattle.layer_traits.specs.declared.{payloads.{Parcel.Parcel, Payload.Payload}, queue_edits.QueueBlock.QueueBlock, queues.QueueEvent.QueueEvent}
@@ -12,7 +12,7 @@ use Rattle.sleep_wakeup.specs.{declared.edits.SleepEdit.SleepEdit, Nested.{neste
 use Rattle.{sleep_wakeup.specs.Parts.{SectionDeferredFits, as_edit, outcome_in, under_of}, plain_layers.specs.declared.kernel.PlainKernel.PlainKernel}
 use Rattle.plain_layers.specs.{declared.qlocks.Unanswered.Unanswered, Kernels.HasKernel}
 
--- a lock that nobody owns and at which nobody waits
+-- a lock that no thread owns and at which none waits
 abbrev pub at_rest : {B : Type 0} → B → SleepBlock (QBlock B)
 at_rest above = record { sleepers = []; receivers = []; senders = []; above = record { busy = None; above = above } }
 
@@ -29,15 +29,16 @@ block_of_lock lock = record {
 abbrev pub lock_in : {B : Type 0} → SleepBlock (QBlock B) → LockState B
 lock_in block = nested_lock_of (state_of block)
 
--- the edit that is meant by what is handed on of a call, with the parcel of the payload
+-- the edit that a call's handed part means, with the parcel of the payload
 abbrev pub plain_meant : {H F R : Type 0} → (H → Parcel → F) → QEdit H R → Payload → SleepEdit (QLockEdit F R)
 plain_meant meant call payload = record { edit = record { edit = lock_meant meant call payload.parcel } }
 
--- the outcome that is told, with that parcel
+-- the outcome for the layer above, with that parcel
 abbrev pub plain_told : {B O : Type 0} → (B → Parcel → O) → Outcome (QOut B) → Payload → Outcome (QOut O)
 plain_told told outcome payload = nested_told (lock_told told) outcome payload
 
--- what the calls mean, and how they move threads: what they do as sections of the layer that lets threads sleep
+-- what the calls mean, and how they move threads: the same as sections of the layer that lets
+-- threads sleep
 abbrev pub plain_lock_rules : {F R B O : Type 0} → LockRules F R B O → Rules (SleepEdit (QLockEdit F R)) (SleepBlock (QBlock B)) (Outcome (QOut O))
 plain_lock_rules rules = nested_rules (busy_rules rules)
 
@@ -56,7 +57,7 @@ locks_of opening = viewed nested_lock_of (viewed state_of opening)
 abbrev pub calls_of : {F R : Type 0} → List (QueueEvent (SleepEdit (QLockEdit F R))) → List (QueueEvent (QEdit F R))
 calls_of past = renamed_events lock_call (renamed_events slept_edit past)
 
--- what is kept, as it is told
+-- the kept outcome, as the layer above sees it
 abbrev pub kept_told : {F R B O : Type 0} → (B → Parcel → O) → Option (Unanswered (SleepEdit (QLockEdit F R)) (QOut B))
     → Option (Deferred (QLockEdit F R) (QOut O))
 kept_told told kept =
@@ -66,46 +67,47 @@ kept_told told kept =
 abbrev pub under_kept : {F R O : Type 0} → Option (Deferred (QLockEdit F R) (QOut O)) → Option (SchedCall (QEdit F R))
 under_kept deferred = option_map (renamed_sched lock_call) (under_of deferred None)
 
--- an outcome is kept only while a thread stands in the hand, and of a call inside or of a release alone
+-- an outcome is kept only while a thread is in the hand, and only of a call inside the lock or of a
+-- release
 abbrev pub KeptFits : {F R O : Type 0} → Option (Deferred (QLockEdit F R) (QOut O)) → Option Tid → Type 0
 KeptFits deferred hand = SectionDeferredFits deferred None hand × DeferredFits (under_kept deferred) (outcome_in deferred) hand
 
--- the answer has to wait: the caller goes on, and a thread stands in the hand
+-- the result is deferred: the caller continues, and a thread is in the hand
 abbrev pub answer_waits : {B : Type 0} → Outcome B → Option Tid → Bool
 answer_waits outcome hand = not outcome.slept && is_some hand
 
--- what is kept after the scheduler's answer, where this parcel lies in the payload
+-- what is kept after the scheduler's result, if this parcel is in the payload
 abbrev pub kept_after : {E B : Type 0} → Option Tid → BufId → E → SchedAnswer (Outcome B) → Parcel → Option (Unanswered E B)
 kept_after hand b e Done parcel = None
 kept_after hand b e (Answer outcome) parcel =
     if answer_waits outcome hand then Some (record { buffer = b; edit = e; outcome = outcome; parcel = parcel }) else None
 
--- what is answered after it
+-- what is returned after it
 abbrev pub answered_after : {E B : Type 0} → Option (Unanswered E B) → Option Tid → SchedAnswer (Outcome B) → Option (Outcome B)
 answered_after kept hand Done = option_map (λ k. k.outcome) kept
 answered_after kept hand (Answer outcome) = if answer_waits outcome hand then None else Some outcome
 
--- the parcel in the payload after it: that of the kept outcome, where that is answered
+-- the parcel in the payload after it: that of the kept outcome, if that is returned
 abbrev pub parcel_after : {E B : Type 0} → Option (Unanswered E B) → SchedAnswer (Outcome B) → Parcel → Parcel
 parcel_after None Done parcel = parcel
 parcel_after (Some k) Done parcel = k.parcel
 parcel_after kept (Answer outcome) parcel = parcel
 
--- for which lock each thread slept, once a call of t is answered so: who is queued sleeps
+-- for which lock each thread slept, after a call of t returned so: a queued caller sleeps
 abbrev pub noted_after : {O : Type 0} → Tid → BufId → List (Option BufId) → Option (Outcome (QOut O)) → List (Option BufId)
 noted_after t b slept None = slept
 noted_after t b slept (Some outcome) = slept_left_by t b slept outcome
 
--- what is handed on: nothing to who is queued
+-- what is returned to the layer above: nothing for a queued caller
 abbrev pub handed_on : {O : Type 0} → Option (Outcome (QOut O)) → Option (Outcome (QOut O))
 handed_on None = None
 handed_on (Some outcome) = outcome_handed_on outcome
 
--- an outcome, as it is told
+-- an outcome, as the layer above sees it
 abbrev pub tell : {P O : Type 0} → (P → Parcel → O) → Parcel → Outcome (QOut P) → Outcome (QOut O)
 tell told parcel outcome = outcome_told (lock_told told) outcome parcel
 
--- what is kept of a call after this answer, and what is answered, as it is told
+-- what is kept of a call after this result, and what is returned, as the layer above sees it
 abbrev pub told_kept : {F R P O : Type 0} → (P → Parcel → O) → Threads → BufId → QEdit F R → SchedAnswer (Outcome (QOut P)) → Parcel
     → Option (Deferred (QLockEdit F R) (QOut O))
 told_kept told threads b e answer parcel = kept_told told (kept_after threads.hand b (as_edit (as_section e)) answer parcel)

@@ -16,7 +16,7 @@ sections_noted m = map section_noted (reverse (events_in m.log))
 abbrev pub opening_in : {E B O H A : Type 0} → LockTable E B O H A → LockId → Option B
 opening_in m = opened m.opening.value.items
 
--- for how many more sections there is room
+-- how many more sections there is room for
 abbrev pub room_in : {E B O H A : Type 0} → LockTable E B O H A → ℕ
 room_in m = room_of m.log - length (events_in m.log)
 

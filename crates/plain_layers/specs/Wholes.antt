@@ -1,5 +1,5 @@
--- A whole section of a whole machine: the section itself, and where it woke a thread of another CPU while its caller goes on, that
--- thread's way home.
+-- A whole section of a whole machine: the section itself and, if it woke a thread of another CPU
+-- while its caller continues, the forwarding of that thread to its home CPU.
 use Rattle.std.specs.Prelude.{◌≡◌, ◌⊎◌, true, false, List, ◌∷◌, Some, None}
 use Rattle.{event_log.specs.declared.ids.{BufId.BufId, CpuId.CpuId, Tid.Tid}, layer_traits.specs.declared.queues.QueueCall.TheVariants.{Push, OnBuffer}}
 use Rattle.layer_traits.specs.{declared.{queues.QueueEvent.QueueEvent, sleeps.Outcome.Outcome}, Threads.{Passes.{passed_on, queue_for}, Places.Threads}}
@@ -9,7 +9,7 @@ use Rattle.layer_traits.specs.Layers.{Queues.{Kernel, event, out_at}, Scheds.own
 abbrev pub IsCoarse : Type 0 → Type 0 → Type 0
 IsCoarse IsWhole IsStepwise = IsWhole × (IsStepwise → ⊥)
 
--- a section that is asked of a machine: on what, by which CPU, at which buffer, and the edit
+-- a section that is requested of a machine: on what, by which CPU, at which buffer, and the edit
 pub record Asked (E B O : Type 0) : Type 1 where
   pub kernel : Kernel E B (Outcome O)
   pub cpu : CpuId
@@ -20,18 +20,18 @@ abbrev pub asked_edit : {E B O : Type 0} → Kernel E B (Outcome O) → CpuId �
 asked_edit kernel cpu buffer edit = record { kernel = kernel; cpu = cpu; buffer = buffer; edit = edit }
 
 module _ {E B O : Type 0} (s : Asked E B O) (old new : List (QueueEvent E)) (own : Threads) (left : Sleeping O) (outcome : Outcome O) where
-  -- the CPU's own threads after the section
+  -- the CPU's scheduling state after the section
   abbrev pub own_done : Threads
   own_done = own_answered s.kernel.moves s.kernel.homes s.cpu (Some outcome) own
 
-  -- the section was done, and nobody had to be sent home
+  -- the section was done, and no thread had to be forwarded
   pub record DoneAlone : Type 0 where
     pub out : out_at s.kernel old s.buffer s.edit ≡ Some outcome
     pub stays : must_send outcome own_done ≡ false
     pub seen : new ≡ event s.cpu (OnBuffer s.buffer s.edit) ∷ old
     pub leaves : left ≡ record { threads = own_done; deferred = None }
 
-  -- the section was done, and then the thread that it woke was sent home
+  -- the section was done, and then the thread that it woke was forwarded to its home CPU
   pub record DoneSending : Type 0 where
     pub out : out_at s.kernel old s.buffer s.edit ≡ Some outcome
     pub sends : must_send outcome own_done ≡ true

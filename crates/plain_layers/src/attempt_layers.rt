@@ -1,5 +1,5 @@
-//! Layers of attempts whose machine is opened with empty buffers. The calls here take memory. None
-//! waits.
+//! Layers of attempts whose machine is opened with empty buffers. The functions here allocate. None
+//! blocks.
 
 ghost use Rattle.std.specs.Prelude.{◌≡◌, ◌<◌, ◌≤◌, [], All, IfOk, IsSome, map};
 ghost use Rattle.{event_log.specs.Buffers.IsCapacity, plain_layers.specs.Attempts.plain_empty_buffer};
@@ -12,19 +12,19 @@ use layer_traits::{OwnedThreadLayer, SleepLaw};
 use sleep_wakeup::{SleepEdit, Sleeper, sleep_blocks};
 use std::alloc::Global;
 
-/// A layer of sleep and wakeup for attempts, whose machine is opened with empty buffers, and of which
-/// each poll does a whole section where it may.
+/// A layer of sleep and wakeup for attempts, whose machine is opened with empty buffers. Each poll
+/// does a whole section if the section may be done.
 pub trait OpensAttempts: OwnedThreadLayer<SleepLaw<Attempt>> {
     ghost use Rattle.{event_log.specs.declared.ids.{CpuId.CpuId, LockId.TheVariants.Pending, TheConstants.CPUS}, layer_traits.specs.Views.Openings.AreOpenable};
     ghost use Rattle.{layer_traits.specs.Blocks.QueueBlocks.{homes_in, inner}, plain_layers.specs.{Fifos.fresh_buffers, Wholes.IsCoarse}};
 
     /// A machine of so many CPUs, with an empty buffer of each of these capacities and a thread of
-    /// each of these homes, and with room for `room` events. All memory is taken here.
+    /// each of these home CPUs. It has room for `room` events. All memory is allocated here.
     ///
-    /// Requires: there are one to `CPUS` CPUs, at most `BUFFERS` capacities, each from 1 to
-    /// `CAPACITY`, and at most `THREADS` homes, each one of the CPUs.
+    /// Requires: there are 1 to `CPUS` CPUs, and at most `BUFFERS` capacities, each from 1 to
+    /// `CAPACITY`. There are at most `THREADS` homes, each one of the CPUs.
     ///
-    /// Errors: `NoMemory` where an allocation was refused.
+    /// Errors: `NoMemory` if an allocation failed.
     fn open(
         alloc: Global,
         cpus: u8,
@@ -47,11 +47,11 @@ pub trait OpensAttempts: OwnedThreadLayer<SleepLaw<Attempt>> {
     ghost whole: { IsCoarse Self.IsWhole Self.IsStepwise };
 }
 
-/// Empty buffers of these capacities, in their order. All memory that they need is taken here.
+/// Empty buffers of these capacities, in their order. All memory that they need is allocated here.
 ///
 /// Requires: each capacity is from 1 to `CAPACITY`.
 ///
-/// Errors: `NoMemory` where there is none for them.
+/// Errors: `NoMemory` if an allocation failed.
 pub fn plain_buffers(alloc: Global, caps: &[u8]) -> Result<Vec<PlainBuffer>, NoMemory>
     requires { All IsCapacity caps.now }
     ensures { IfOk result (λ buffers. buffers.items ≡ map plain_empty_buffer caps.now) }

@@ -1,4 +1,4 @@
-//! A message call as one section: the attempts on one buffer. No call takes memory or waits.
+//! A message call as one section: the attempts on one buffer. No function allocates or blocks.
 
 ghost use Rattle.std.specs.Prelude.{◌≡◌, ◌≤◌, true, [], is_some};
 ghost use Rattle.{event_log.specs.declared.ids.TheConstants.CAPACITY, layer_traits.specs.{Layers.Sleeping.joined, declared.sleeps.Wake.TheVariants.Nobody}};
@@ -32,12 +32,12 @@ pub struct Attempt {
     pub ask: Ask,
 }
 
-/// What an attempt answers.
+/// The result of an attempt.
 #[derive(Clone, Copy)]
 pub enum Tried {
-    /// The buffer allowed it this effect, and it woke this thread.
+    /// The buffer allowed it this effect, which woke this thread.
     Acted(Effect, Wake),
-    /// The buffer allowed it no effect: its caller waits on this side.
+    /// The buffer allowed it no effect; its caller waits on this side.
     Refused(Side),
 }
 
@@ -53,8 +53,8 @@ impl Tried {
     }
 }
 
-/// A buffer with its items, whether it is closed, its counters modulo 2^64, and who waits at it,
-/// first in front. No attempt takes memory.
+/// A buffer with its items, whether it is closed, its counters modulo 2^64, and the threads that
+/// wait at it, head first. No attempt allocates.
 #[derive(Drop)]
 pub struct PlainBuffer {
     items: Ring<Msg>,
@@ -110,7 +110,7 @@ impl PlainBuffer {
         }
     }
 
-    /// The items, first in front.
+    /// The items, head first.
     pub fn items(&self) -> ArrayVec<Msg, CAPACITY>
         ensures { result.items ≡ self.now.items }
     {
@@ -124,8 +124,8 @@ impl PlainBuffer {
         self.closed
     }
 
-    /// Whether a call may take effect: a send where there is room, a receive where there is an item,
-    /// both where the buffer is closed; a close always.
+    /// Whether a call may take effect: a send if there is room, a receive if there is an item, both
+    /// if the buffer is closed. A close always may.
     fn allows(&self, ask: &Ask) -> bool
         ensures { result ≡ allows ask.now self.now }
     {
@@ -136,7 +136,7 @@ impl PlainBuffer {
         }
     }
 
-    /// Whether somebody waits on this side.
+    /// Whether a thread waits on this side.
     fn has_waiting(&self, side: Side) -> bool
         ensures { result ≡ is_some (first (waiting_on side self.now)) }
     {
@@ -146,7 +146,7 @@ impl PlainBuffer {
         }
     }
 
-    /// Wakes the first of this side; nobody, where nobody waits there.
+    /// Wakes the first thread of this side, if one waits there.
     fn wake(&mut self, side: Side) -> Wake
         ensures block { self.new ≡ attempt_woken side self.old }
         ensures reported { result ≡ leaving_side side (first (waiting_on side self.old)) }
@@ -163,8 +163,8 @@ impl PlainBuffer {
         }
     }
 
-    /// Wakes whom an effect of this side wakes: the first of the other side; but where the buffer is
-    /// closed the first of its own, while somebody waits there.
+    /// Wakes the thread that an effect of this side wakes: the first of the other side. If the
+    /// buffer is closed and a thread waits on this side, it is the first of this side.
     fn wake_after(&mut self, own: Side) -> Wake
         ensures block { self.new ≡ attempt_woken (waking_by self.old.closed own self.old) self.old }
         ensures reported { result
@@ -179,7 +179,7 @@ impl PlainBuffer {
         }
     }
 
-    /// Puts `message`, where there is room and the buffer is open; in a closed one it puts nothing.
+    /// Puts `message` if there is room and the buffer is open. In a closed buffer it puts nothing.
     fn send(&mut self, message: &Msg) -> Tried
         requires { allows (Send message.now) self.old ≡ true }
         ensures block { self.new ≡ done (Send message.now) self.old }
@@ -203,7 +203,7 @@ impl PlainBuffer {
         Tried::Acted(effect, self.wake_after(Side::Senders))
     }
 
-    /// Takes the first item, where there is one; in a closed buffer that has none it takes nothing.
+    /// Takes the first item if there is one. In a closed buffer without items it takes nothing.
     fn receive(&mut self) -> Tried
         requires { allows Receive self.old ≡ true }
         ensures block { self.new ≡ done Receive self.old }
@@ -253,8 +253,9 @@ impl PlainBuffer {
     }
 }
 
-/// Law: a closed buffer lets all who wait go. Nobody begins to wait there, and an effect that wakes
-/// nobody found nobody waiting: so each that waits is woken, by an effect of the one before it.
+/// Law: a closed buffer strands no waiter. It allows every call, so that no thread begins to wait
+/// there. An effect wakes a thread as long as one waits, so that each woken thread wakes the next
+/// by its effect.
 pub fn closed_buffers_let_all_go()
     ensures goes { (ask : Ask) (x : PlainState) → x.closed ≡ true → allows ask x ≡ true }
     ensures wakes { (ask : Ask) (x : PlainState) → closed_after ask x ≡ true → attempt_wakes ask x ≡ Nobody → (x.receivers ≡ []) × (x.senders ≡ []) }
@@ -270,8 +271,8 @@ fn attempt_side(ask: &Ask) -> Side
     }
 }
 
-/// Puts `t` at the end of `queue`, where it is one of the threads that a machine may have and does
-/// not stand there.
+/// Appends `t` to `queue`, if it is one of the threads that a machine may have and not in the
+/// queue.
 fn join(queue: &mut ThreadQueue, t: Tid)
     ensures { queue.new ≡ joined t queue.old }
 {
@@ -301,7 +302,7 @@ impl Sleeps for Attempt {
         attempt.thread
     }
 
-    // An attempt holds its message itself.
+    // An attempt contains its message.
     fn whole(attempt: &Attempt, _parcel: &Parcel) -> Attempt {
         *attempt
     }

@@ -1,8 +1,8 @@
-//! A lock with backoff, of which a poll is neither one action nor one call: an example.
+//! A lock with backoff, whose poll is neither one action nor one call: an example.
 //!
-//! Over it the tower keeps its safety: one order, a run of the buffers, their contents. What is told
-//! of each step (the step table, a system that is quiet, the steps of a call alone) is told of locks
-//! of which a poll is one action.
+//! Over it the tower keeps its safety: one order, which is a legal history of the buffers and ends
+//! in their contents. The claims on single steps (the step table, quiescence, the steps of an
+//! uncontended call) are proved only over locks whose poll is one action.
 
 ghost use Rattle.std.specs.Prelude.{◌≡◌, [], IfOk};
 ghost use Rattle.event_log.specs.declared.ids.TheConstants.{CPUS};
@@ -11,15 +11,16 @@ use event_log::{CpuId, LockId, NoMemory};
 use layer_traits::{Layer, LockCall, LockLaw, OwnedLocks, Payload, SplitEdit};
 use std::alloc::Global;
 
-/// The most polls that a CPU rests between two tries.
+/// The most polls that a CPU skips between two tries.
 const MOST: u8 = 8;
 
-/// One CPU's part of a lock whose CPUs rest between two tries: after each try of a section that is
-/// under way it lets polls pass, twice as many each time.
+/// One CPU's part of a lock whose CPUs back off between two tries. After each try it skips polls of
+/// a section that is under way: 1 at first, twice as many after each further try up to `MOST`, then
+/// 1 again.
 #[derive(Drop)]
 pub struct Backoff<L> {
     lower: L,
-    // How many polls are still to pass, and how many after the next try.
+    // How many polls it still skips, and how many after the next try.
     rests: u8,
     next: u8,
 }

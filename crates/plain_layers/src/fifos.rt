@@ -13,10 +13,11 @@ use layer_traits::{
     OwnedThreadLayer, Pass, Payload, ReplyKind, SleepLaw, Stage, ThreadLayer, WaitList, no_calls,
 };
 
-/// One CPU's part of first-in first-out blocking buffers as they are meant, over a part `S` of sleep
-/// and wakeup: a message call is one section. It takes effect if the buffer allows it, and else its
-/// thread sleeps and calls again once it is woken. A thread that comes anew may take what one was
-/// woken for, which then sleeps again. A close lets those who sleep go, each woken by the one before.
+/// One CPU's part of first-in first-out blocking buffers as they are specified, over a part `S` of
+/// sleep and wakeup: a message call is one section. It takes effect if the buffer allows it;
+/// otherwise its thread sleeps, and calls again after it is woken. A new caller may take what a
+/// thread was woken for, and that thread then sleeps again. A close wakes the first sleeping
+/// thread, and the effect of each wakes the next.
 #[derive(Drop)]
 pub struct PlainFifo<S> {
     lower: S,

@@ -1,5 +1,5 @@
-//! Message calls in one step: the top of the layers, over one-step buffers. Only `open` takes
-//! memory. No call waits.
+//! Message calls in one step: the top of the layers, over one-step buffers. Only `open` allocates.
+//! No function blocks.
 
 ghost use Rattle.std.specs.Prelude.{◌≤◌, ◌^◌};
 ghost use Rattle.plain_layers.specs.Wholes.{IsCoarse};
@@ -14,11 +14,12 @@ use layer_traits::{CallLayer, IpcLaw};
 use std::alloc::Global;
 
 /// One CPU's part of message calls in one step: a call takes effect at the first poll at which its
-/// buffer allows it, and else its thread sleeps.
+/// buffer allows it. Until then its thread sleeps.
 pub type PlainIpc = Ipc<PlainFifo<PlainSleep<Attempt>>>;
 
 impl<S: OpensAttempts> OpensBuffers for PlainFifo<S> {
-    // A poll is at most two events beneath: the section, and the sending home of whom it woke.
+    // A poll is at most two events below: the section, and the forwarding of the thread that it
+    // woke.
     fn open(
         alloc: Global,
         cpus: u8,
@@ -33,7 +34,7 @@ impl<S: OpensAttempts> OpensBuffers for PlainFifo<S> {
     }
 }
 
-/// The refusal of more bytes than a list can have.
+/// The error for more bytes than a list can have.
 fn refusal_of(alloc: Global, bytes: usize) -> NoMemory
     requires { 2 ^ 63 ≤ bytes }
 {

@@ -1,5 +1,5 @@
-//! The machine beneath one-step queues and schedulers: lists of threads and of blocks. Only
-//! `PlainKernel::open` takes memory. No call waits.
+//! The machine under one-step queues and schedulers: lists of threads and of blocks. Only
+//! `PlainKernel::open` allocates. No function blocks.
 
 ghost use Rattle.std.specs.Prelude.{◌≡◌, ◌+◌, ◌<◌, ◌∷◌, [], Some, IsSome, IfOk, length, option_map, replicate, slice_get};
 ghost use Rattle.{event_log.specs.declared.ids.{LockId.TheVariants.{Buffer, Pending}, TheConstants.CPUS}, thread_blocks.specs.Queues.is_in};
@@ -14,22 +14,22 @@ use std::alloc::Global;
 use std::snapshot::Snapshot;
 use thread_blocks::ThreadQueue;
 
-/// What all CPUs share: the pending threads of each CPU, front first, and the block of each buffer.
+/// What all CPUs share: the pending threads of each CPU, head first, and the block of each buffer.
 #[derive(Drop)]
 pub struct Lists<B> {
     pending: Vec<ThreadQueue>,
     buffers: Vec<B>,
 }
 
-/// What a machine opened with, for clauses alone: its lists, and the home of each thread.
+/// What a machine opened with, only for clauses: its lists, and the home CPU of each thread.
 #[derive(Drop)]
 pub struct Opening<B> {
     lists: Snapshot<Lists<B>>,
     homes: Snapshot<ArrayVec<CpuId, THREADS>>,
 }
 
-/// The lists that all CPUs share, and the list of the calls that were done, with room for a number
-/// of them that is fixed when it is opened. No call after [`PlainKernel::open`] takes memory.
+/// The lists that all CPUs share, and the list of the calls that were done. The room for calls is
+/// fixed when the machine is opened. No function after [`PlainKernel::open`] allocates.
 #[derive(Drop)]
 pub struct PlainKernel<E: Moves> {
     log: EventLog<QueueEvent<E>>,
@@ -38,13 +38,13 @@ pub struct PlainKernel<E: Moves> {
 }
 
 impl<E: Moves> PlainKernel<E> {
-    /// A machine of so many CPUs, on which nobody is pending, with the block of each buffer in its
-    /// place. `homes` holds the home of each thread; there is room for `room` calls.
+    /// A machine of so many CPUs, with no pending thread and with the block of each buffer in its
+    /// place. `homes` holds the home CPU of each thread; there is room for `room` calls.
     ///
-    /// Requires: there are at least one CPU and at most `CPUS`, at most `BUFFERS` blocks and at
-    /// most `THREADS` homes. Each home is one of the CPUs.
+    /// Requires: there are 1 to `CPUS` CPUs, at most `BUFFERS` blocks and at most `THREADS` homes.
+    /// Each home is one of the CPUs.
     ///
-    /// Errors: `NoMemory` where an allocation was refused; then the blocks are gone.
+    /// Errors: `NoMemory` if an allocation failed; then the blocks are dropped.
     pub fn open(
         alloc: Global,
         buffers: Vec<E::Block>,
@@ -76,10 +76,11 @@ impl<E: Moves> PlainKernel<E> {
         })
     }
 
-    /// Does a whole call: notes what is meant, does it on the lists, and gives what brings its answer.
+    /// Does a whole call: records its meaning, applies it to the lists, and returns what brings its
+    /// result.
     ///
     /// Requires: the machine's lists are what its calls make of them. It has room for one more
-    /// call. The CPU's number is below `CPUS`. The call's lock is there, and the call is allowed.
+    /// call. The CPU's number is below `CPUS`. The call's lock exists, and the call is allowed.
     pub fn done(
         &mut self,
         cpu: CpuId,
@@ -98,21 +99,21 @@ impl<E: Moves> PlainKernel<E> {
         ensures answer { answer_of (kernel E.rules E.moves (opening_of self.old.opening)) (calls_in self.old) (call_meant E.meant call payload.old)
             ≡ Some (queue_told E.told result payload.new) }
     {
-        // What the call leaves in the payload may lie in the place of its parcel.
+        // What the call leaves in the payload may overwrite its parcel.
         let meant = whole_call::<E>(&call, payload);
         let answer = do_call::<E>(&mut self.lists, &call, payload);
         self.log.push(QueueEvent { cpu, call: meant }).unwrap();
         answer
     }
 
-    /// The block of the buffer `b`; `None` where there is no such buffer.
+    /// The block of the buffer `b`; `None` if there is no such buffer.
     pub fn block(&self, b: BufId) -> Option<&E::Block>
         ensures { option_map (λ block. block.now) result ≡ slice_get self.now.lists.buffers.items b.0 }
     {
         self.lists.buffers.get(usize::from(b.0))
     }
 
-    /// Whether `t` is pending at the CPU `d`; `None` where there is no such CPU.
+    /// Whether `t` is pending at the CPU `d`; `None` if there is no such CPU.
     pub fn pends(&self, d: CpuId, t: Tid) -> Option<bool>
         ensures { result ≡ option_map (λ queue. is_in t queue) (slice_get self.now.lists.pending.items d.0) }
     {
@@ -123,7 +124,7 @@ impl<E: Moves> PlainKernel<E> {
     }
 }
 
-/// The call that is meant.
+/// The call that its handed part and the payload mean.
 fn whole_call<E: Moves>(call: &QueueCall<E::Handed>, payload: &Payload) -> QueueCall<E>
     ensures { result ≡ call_meant E.meant call.now payload.now }
 {
@@ -136,7 +137,7 @@ fn whole_call<E: Moves>(call: &QueueCall<E::Handed>, payload: &Payload) -> Queue
     }
 }
 
-/// Does on the lists the call that is meant.
+/// Applies such a call to the lists.
 fn do_call<E: Moves>(
     lists: &mut Lists<E::Block>,
     call: &QueueCall<E::Handed>,

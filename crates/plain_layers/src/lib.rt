@@ -1,7 +1,7 @@
-//! One-step machines: each layer's meaning as a machine that keeps what lies beneath as lists and
+//! One-step machines: each layer's specification as a machine that keeps what is below as lists and
 //! does a whole call in one step.
 //!
-//! A section of critical sections in one step:
+//! A critical section in one step:
 //!
 //! ```text
 //! let mut machine = PlainLock::<AddOne>::open(alloc, blocks, 1)?;

@@ -1,5 +1,5 @@
-//! The machine beneath one-step critical sections: a list of blocks. Only `LockTable::open` takes
-//! memory. No call waits.
+//! The machine under one-step critical sections: a list of blocks. Only `LockTable::open`
+//! allocates. No function blocks.
 
 ghost use Rattle.std.specs.Prelude.{◌≡◌, ◌+◌, ◌<◌, ◌∷◌, [], IsSome, IfOk, option_map, if◌then◌else◌};
 ghost use Rattle.{event_log.specs.{declared.ids.{TheConstants.CPUS, LockId.LockId}, History.same_lock}, layer_traits.specs.Protocols.OneLock.opened};
@@ -11,7 +11,7 @@ use layer_traits::{Payload, SplitEdit};
 use std::alloc::Global;
 use std::snapshot::Snapshot;
 
-/// A section as the list of events has it: who edited the block of which lock, and how.
+/// A section in the list of events: which CPU edited the block of which lock, and how.
 #[derive(Drop)]
 pub struct Noted<E> {
     /// The CPU whose section it was.
@@ -22,20 +22,20 @@ pub struct Noted<E> {
     pub edit: E,
 }
 
-/// The block of each lock as a list, and the list of the sections that were done, with room for a
-/// number of them that is fixed when it is opened. No call after [`LockTable::open`] takes memory.
+/// The block of each lock as a list, and the list of the sections that were done. The room for
+/// sections is fixed when the machine is opened. No function after [`LockTable::open`] allocates.
 #[derive(Drop)]
 pub struct LockTable<E: SplitEdit> {
     log: EventLog<Noted<E>>,
     blocks: Vec<(LockId, E::Block)>,
-    // The blocks that the locks opened with, for clauses alone.
+    // The blocks that the locks opened with, only for clauses.
     opening: Snapshot<Vec<(LockId, E::Block)>>,
 }
 
 impl<E: SplitEdit> LockTable<E> {
     /// A machine with these locks, each with its block, and with room for `room` sections.
     ///
-    /// Errors: `NoMemory` where the room could not be had; then the blocks are gone.
+    /// Errors: `NoMemory` if an allocation failed; then the blocks are dropped.
     pub fn open(
         alloc: Global,
         blocks: Vec<(LockId, E::Block)>,
@@ -55,11 +55,11 @@ impl<E: SplitEdit> LockTable<E> {
         })
     }
 
-    /// Does a whole section: edits the block of `lock` as is meant, notes it and gives what brings the
-    /// edit's answer.
+    /// Does a whole section: applies the edit to the block of `lock`, records the section and
+    /// returns what brings the edit's result.
     ///
     /// Requires: the blocks are what the sections make of them. There is room for one more section.
-    /// The CPU's number is below `CPUS`. The lock is there, and the section is allowed.
+    /// The CPU's number is below `CPUS`. The lock exists, and the section is allowed.
     pub fn done(
         &mut self,
         cpu: CpuId,
@@ -79,16 +79,16 @@ impl<E: SplitEdit> LockTable<E> {
         ensures answer { Answers E.rules (opening_in self.old) (sections_noted self.old) (section cpu lock (E.meant handed payload.old))
             (E.told result payload.new) }
     {
-        // The section may lay its answer's parcel in the place of the edit's.
+        // The section may overwrite the edit's parcel with that of its result.
         let edit = E::whole(&handed, payload);
         let answer = edit_at::<E>(&mut self.blocks, lock, &handed, payload);
         self.log.push(Noted { cpu, lock, edit }).unwrap();
         answer
     }
 
-    /// The block of `lock`, which there is.
+    /// The block of `lock`, which exists.
     ///
-    /// Requires: the blocks are what the sections make of them, and the lock is there.
+    /// Requires: the blocks are what the sections make of them, and the lock exists.
     pub fn block(&self, lock: LockId) -> Option<&E::Block>
         requires sound { IsTable E.rules (opening_in self.now) (sections_noted self.now) self.now.blocks.items }
         requires lock { IsSome (opening_in self.now lock) }
@@ -99,7 +99,7 @@ impl<E: SplitEdit> LockTable<E> {
     }
 }
 
-/// Edits the block of `lock` in the list as is meant, and gives what brings the edit's answer.
+/// Applies the edit to the block of `lock` in the list, and returns what brings the edit's result.
 fn edit_at<E: SplitEdit>(
     blocks: &mut Vec<(LockId, E::Block)>,
     lock: LockId,

@@ -8,8 +8,8 @@ use layer_traits::{Layer, LockCall, LockLaw, OwnedLocks, Payload, SplitEdit};
 use std::alloc::Global;
 use std::marker::PhantomData;
 
-/// One CPU's part of critical sections as they are meant: a section edits its block in one step,
-/// and nobody ever waits.
+/// One CPU's part of critical sections as they are specified: a section edits its block in one
+/// step, and no CPU ever waits.
 #[derive(Drop)]
 pub struct PlainLock<E> {
     cpu: CpuId,

@@ -1,5 +1,5 @@
-//! What the calls of a one-step queuing lock do, as edits of plain data. No call takes memory or
-//! waits.
+//! The calls of a one-step queuing lock, as edits of plain data. Only `plain_locks` allocates. No
+//! function blocks.
 
 ghost use Rattle.std.specs.Prelude.{◌≡◌, IfOk, is_some, map};
 ghost use Rattle.layer_traits.specs.{declared.locked.Side.TheVariants.{Receivers, Senders}, Layers.QLocking.{list_with_waiter, lock_asked_by, signalled}};
@@ -15,7 +15,7 @@ use std::alloc::Global;
 use std::marker::Model;
 use thread_blocks::ThreadQueue;
 
-/// A queuing lock as plain data: its owner, who waits at it, each first in front, and what it
+/// A queuing lock as plain data: its owner, the threads that wait at it, head first, and what it
 /// guards.
 #[derive(Drop)]
 pub struct PlainQBlock<B> {
@@ -47,14 +47,14 @@ impl<B> PlainQBlock<B> {
         &self.above
     }
 
-    /// Who owns the lock; `None` where nobody does.
+    /// The thread that owns the lock, if there is one.
     pub(crate) fn owner(&self) -> Option<Tid>
         ensures { result ≡ self.now.above.busy }
     {
         self.owner
     }
 
-    /// The list in which `t` waits; `None` where it waits in none.
+    /// The list in which `t` waits; `None` if it waits in none.
     pub(crate) fn wait_list(&self, t: Tid) -> Option<WaitList>
         ensures { result ≡ wait_list_under t (lock_in self.now) }
     {
@@ -71,9 +71,9 @@ impl<B> PlainQBlock<B> {
     }
 }
 
-/// The locks at boot, in the order of what they guard: nobody owns one or waits at one.
+/// The locks at boot, in the order of what they guard. No thread owns one or waits at one.
 ///
-/// Errors: `NoMemory` where there is none for them; then what they guard is gone.
+/// Errors: `NoMemory` if an allocation failed; then what they guard is dropped.
 pub fn plain_locks<B: Drop>(alloc: Global, blocks: Vec<B>) -> Result<Vec<PlainQBlock<B>>, NoMemory>
     ensures { IfOk result (λ made. made.items ≡ map at_rest blocks.items) }
 {
@@ -105,8 +105,7 @@ impl<F, R> Model for PlainQEdit<F, R> {
     ghost view = { λ edit. record { edit = record { edit = edit.call } } };
 }
 
-/// Puts `t` at the end of a list, if it is a thread that a machine may have and does not stand there
-/// yet.
+/// Appends `t` to a list, if it is a thread that a machine may have and not in the list.
 fn join(queue: &mut ThreadQueue, t: Tid)
     ensures { queue.new ≡ joined t queue.old }
 {
@@ -115,7 +114,8 @@ fn join(queue: &mut ThreadQueue, t: Tid)
     }
 }
 
-/// Gives the lock to `t` where nobody owns it. Else `t` waits for it; returns whether it does.
+/// Gives the lock to `t` if no thread owns it; otherwise `t` waits for it. Returns whether it
+/// waits.
 fn ask<B>(lock: &mut PlainQBlock<B>, t: Tid) -> bool
     ensures lock { lock_in lock.new ≡ lock_asked_by t lock.old.above.busy (lock_in lock.old) }
     ensures waits { result ≡ is_some (wait_list_asked lock.old.above.busy) }
@@ -128,7 +128,7 @@ fn ask<B>(lock: &mut PlainQBlock<B>, t: Tid) -> bool
     true
 }
 
-/// Takes whom an edit signals out of its list, and returns it if it stood there.
+/// Takes the thread that an edit signals out of its list, and returns it if it was in the list.
 fn wake(signal: WakeWaiter, receivers: &mut ThreadQueue, senders: &mut ThreadQueue) -> Option<Tid>
     ensures woke { result ≡ signalled signal receivers.old senders.old }
     ensures receivers { receivers.new ≡ waiting_without Receivers signal receivers.old }
@@ -151,7 +151,7 @@ fn wake(signal: WakeWaiter, receivers: &mut ThreadQueue, senders: &mut ThreadQue
     }
 }
 
-/// Puts `t` at the end of the list of its side, if it waits on one.
+/// Appends `t` to the list of its side, if it waits on one.
 fn wait(side: Option<Side>, t: Tid, receivers: &mut ThreadQueue, senders: &mut ThreadQueue)
     ensures receivers { receivers.new ≡ list_with_waiter Receivers side t receivers.old }
     ensures senders { senders.new ≡ list_with_waiter Senders side t senders.old }
@@ -163,7 +163,7 @@ fn wait(side: Option<Side>, t: Tid, receivers: &mut ThreadQueue, senders: &mut T
     }
 }
 
-/// The list of those that wait on a side.
+/// The list of the threads that wait on a side.
 fn list_of(side: Option<Side>) -> Option<WaitList>
     ensures { result ≡ wait_list_for side }
 {
@@ -208,7 +208,8 @@ fn apply<F: Locked>(
             let out = F::apply_last(*last, &mut block.above);
             let side = F::waits(&out);
             wait(side, t, &mut block.receivers, &mut block.senders);
-            // Who waits longest owns the lock from now on; where nobody waits it is free.
+            // The thread that has waited longest is the next owner of the lock; if none waits, the
+            // lock is free.
             let woke = block.sleepers.pop();
             block.owner = woke;
             Outcome {

@@ -1,4 +1,4 @@
-//! Queuing locks in one step, over the lists that all CPUs share. No call takes memory or waits.
+//! Queuing locks in one step, over the lists that all CPUs share. No function allocates or blocks.
 
 ghost use Rattle.std.specs.Prelude.{◌≡◌, ◌<◌, Some, None, is_some, slice_set};
 ghost use Rattle.{event_log.specs.declared.ids.TheConstants.THREADS, layer_traits.specs.{declared.payloads.Parcel.Parcel, Blocks.Payloads.lock_meant}};
@@ -15,7 +15,7 @@ use layer_traits::{
     WaitList,
 };
 
-/// A call that is done and not answered yet: which it was, its outcome, and the parcel that the
+/// A call that is done and has not returned: which it was, its outcome, and the parcel that the
 /// outcome brings.
 #[derive(Drop)]
 pub struct Unanswered<E, B> {
@@ -25,13 +25,13 @@ pub struct Unanswered<E, B> {
     parcel: Parcel,
 }
 
-/// One CPU's part of queuing locks as they are meant: a call is one edit of a lock that is plain data,
-/// done in one step. A call that wakes a thread of another CPU, and whose caller goes on, is answered
-/// at the next poll, which sends that thread home.
+/// One CPU's part of queuing locks as they are specified: a call is one edit of a lock that is
+/// plain data, done in one step. A call whose caller continues after it woke a thread of another
+/// CPU returns at the next poll. That poll forwards the thread to its home CPU.
 #[derive(Drop)]
 pub struct PlainQLock<F: Locked> {
     sched: PlainSched<PlainQEdit<F, F::Release>>,
-    // For the lock of which buffer each thread slept, until its call answers.
+    // The buffer for whose lock each thread slept, until its call returns.
     slept: [Option<BufId>; THREADS],
     kept: Option<Unanswered<PlainQEdit<F, F::Release>, QOut<F::Brought>>>,
 }
@@ -66,7 +66,7 @@ fn hand_of<E: Moves>(sched: &PlainSched<E>) -> Option<Tid>
     sched.own_here().hand()
 }
 
-/// Notes that the sleep of `t` is over.
+/// Records that the sleep of `t` is over.
 fn wake_up(slept: &mut [Option<BufId>; THREADS], t: Tid)
     requires { t.0 < THREADS }
     ensures { slept.new ≡ slice_set slept.old t.0 None }
@@ -74,7 +74,7 @@ fn wake_up(slept: &mut [Option<BufId>; THREADS], t: Tid)
     slept[usize::from(t.0)] = None;
 }
 
-/// The scheduler's call that is due: who stands in the hand goes home first.
+/// The scheduler's next call: a thread in the hand is first forwarded to its home CPU.
 fn due<H: Drop>(hand: Option<Tid>, buffer: BufId, call: H) -> SchedCall<H>
     ensures { result ≡ due hand buffer call }
 {
@@ -84,8 +84,8 @@ fn due<H: Drop>(hand: Option<Tid>, buffer: BufId, call: H) -> SchedCall<H>
     }
 }
 
-/// Takes the scheduler's answer, after which the hand is this. Returns the outcome of the call if it
-/// has one now, with its parcel in the payload; else it is kept.
+/// Takes the scheduler's result, after which the hand is this. Returns the outcome of the call if
+/// it has one, with its parcel in the payload; otherwise the outcome is kept.
 fn take_up<E, B: Drop>(
     kept: &mut Option<Unanswered<E, B>>,
     hand: Option<Tid>,
@@ -121,8 +121,8 @@ fn take_up<E, B: Drop>(
     }
 }
 
-/// Hands an outcome on. A caller that is queued sleeps for the lock of `buffer` from now on, and is
-/// answered once it owns it.
+/// Returns an outcome to the layer above. A caller that is queued sleeps for the lock of `buffer`,
+/// and its call returns once it owns the lock.
 ///
 /// Requires: the thread is below `THREADS`.
 fn hand_on<B: Drop>(
@@ -229,7 +229,7 @@ impl<F: Locked> ThreadLayer<QLockLaw<F>> for PlainQLock<F> {
         let BufferCall { buffer, edit } = call;
         let t = caller::<F>(&edit);
         if has_slept(&self.slept, t) {
-            // The owner before has handed the lock to this thread.
+            // The previous owner has handed the lock to this thread.
             wake_up(&mut self.slept, t);
             return Some(Outcome {
                 out: QOut::Acquired,

@@ -7,8 +7,8 @@ use event_log::{BufId, CpuId, Tid};
 use layer_traits::{BareQueueAnswer, Layer, Moves, OwnedLayer, Payload, QueueCall, QueueLaw};
 use std::marker::PhantomData;
 
-/// One CPU's part of shared queues as they are meant: a push, a taking or an edit is done in one
-/// step, and nobody ever waits.
+/// One CPU's part of shared queues as they are specified. A push, a taking or an edit is done in
+/// one step, and no CPU ever waits.
 #[derive(Drop)]
 pub struct PlainQueues<E> {
     cpu: CpuId,

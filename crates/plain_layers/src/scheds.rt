@@ -11,8 +11,8 @@ use layer_traits::{
 use scheduler::{call_beneath, pass_locally, take_answer, threads_at_boot};
 use std::marker::PhantomData;
 
-/// One CPU's part of schedulers as they are meant: each call is done in one step, and nobody ever
-/// waits.
+/// One CPU's part of schedulers as they are specified: each call is done in one step, and no CPU
+/// ever waits.
 #[derive(Drop)]
 pub struct PlainSched<E> {
     cpu: CpuId,

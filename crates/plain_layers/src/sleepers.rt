@@ -1,10 +1,10 @@
 //! Sleep and wakeup over one-step schedulers, and conditions over one-step queuing locks.
 //!
-//! From the shared queues up all laws speak of one list of events, and a layer adds an edit round
-//! the edit beneath and one field of its own. So over lists each of these layers is its own one-step
-//! machine: a body of its own would be the layer's again.
+//! From the shared queues upwards all laws are about one list of events, and a layer wraps the edit
+//! below and adds one field. Therefore, over lists, each of these layers is its own one-step
+//! machine: a second implementation would repeat the layer.
 //!
-//! No call takes memory or waits.
+//! No function allocates or blocks.
 
 ghost use Rattle.std.specs.Prelude.{◌≡◌};
 ghost use Rattle.plain_layers.specs.Wholes.{IsCoarse};
@@ -15,9 +15,9 @@ use condvar::Cond;
 use layer_traits::{CvEdit, CvLaw, Guarded, SleepLaw, Sleeps, ThreadLayer};
 use sleep_wakeup::{SleepEdit, Sleeper};
 
-/// One CPU's part of sleep and wakeup in one step: a section that wakes nobody of another CPU, or
-/// whose caller falls asleep, is done in one poll. Where it wakes a thread of another CPU and its
-/// caller goes on, the next poll sends that thread home and answers.
+/// One CPU's part of sleep and wakeup in one step. A section is done in one poll if it wakes no
+/// thread of another CPU or its caller falls asleep. Otherwise the next poll forwards the woken
+/// thread to its home CPU and returns the result.
 pub type PlainSleep<E> = Sleeper<E, PlainSched<SleepEdit<E>>>;
 
 /// One CPU's part of conditions in one step.

@@ -1,5 +1,5 @@
-//! A whole section of sleep and wakeup at once, over a machine that does whole calls. It takes no
-//! memory and does not wait.
+//! A whole section of sleep and wakeup at once, over a machine that does whole calls. The function
+//! neither allocates nor blocks.
 
 ghost use Rattle.std.specs.Prelude.{◌≡◌, ◌≢◌, ◌+◌, ◌<◌, ◌≤◌, None, IsSome};
 ghost use Rattle.{event_log.specs.declared.ids.{CpuId.CpuId, LockId.TheVariants.Buffer, TheConstants.CPUS}, layer_traits.specs.Blocks.Payloads.outcome_told};
@@ -8,9 +8,8 @@ ghost use Rattle.{layer_traits.specs.Layers.SleepLaw.{MaySleep, sleep_kernel}, p
 use event_log::BufId;
 use layer_traits::{BufferCall, Outcome, Payload, SleepLaw, Sleeps, ThreadLayer};
 
-/// Does the whole section of the edit that is meant at the lock of `buffer`, where the holder of the
-/// machine acts for every CPU: one poll, or two where the section wakes a thread of another CPU and
-/// its caller goes on.
+/// Does the whole section of an edit at the lock of `buffer`. This is one poll, or two if the
+/// section wakes a thread of another CPU and its caller continues.
 ///
 /// Requires: each poll is a whole section. The holder of the machine acts for every CPU. The part
 /// and the machine agree, nothing is under way and nothing is deferred. There is a lock at
@@ -50,7 +49,7 @@ where
     match part.poll(m, BufferCall { buffer, edit }, payload) {
         Some(outcome) => outcome,
         None => {
-            // The section may have laid its answer's parcel in the place of the edit's.
+            // The section may have overwritten the edit's parcel with that of its result.
             payload.parcel = parcel;
             part.poll(m, BufferCall { buffer, edit }, payload).unwrap()
         }

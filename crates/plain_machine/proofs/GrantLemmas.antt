@@ -23,7 +23,7 @@ stored words long served at is k within = go (k == (served + 1) % CPUS) refl
         (let below : at < CPUS = rw here (omega arith) in omega arith) ∙ next_number served
     go false other = get_or-set_other words at k (((served + 1) % 2 ^ 64 + 1) % 2 ^ 64) 0 (λ e. eqb-false k ((served + 1) % CPUS) other (e ∙ here))
 
--- after it each word is what came to it last
+-- after it each word is the last value stored there
 pub words_granted : (words : List ℕ) → length words ≡ CPUS → (given served at : ℕ) → served ≡ given % 2 ^ 64 → at ≡ (served + 1) % 2 ^ 64 % CPUS
     → ((k : ℕ) → k < CPUS → WordFits k given (slice_index words k))
     → (k : ℕ) → k < CPUS → WordFits k (given + 1) (slice_index (slice_set words at (((served + 1) % 2 ^ 64 + 1) % 2 ^ 64)) k)

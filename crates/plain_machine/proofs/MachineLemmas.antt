@@ -93,7 +93,7 @@ module _ {E B O K : Type 0} {Fit : ℕ → ℕ → K → Type 0} {rules : Rules 
     look_may : MayCome (rules.allowed opening) log (Look cpu lock ticket (frees lock log % 2 ^ 64))
     look_may = ((waiting, refl), tt)
 
-    -- a look reads the number of earlier frees
+    -- a poll reads the number of earlier frees
     look_sound : (served : Bool) → served ≡ (frees lock log % 2 ^ 64 == ticket)
         → IsSound Fit rules opening (looked cpu lock ticket log) (with_cell cells lock (looked_cell cell served))
     look_sound true is = step_sound (Look cpu lock ticket (frees lock log % 2 ^ 64)) refl look_may (looked_cell cell true) cell_words
@@ -101,7 +101,7 @@ module _ {E B O K : Type 0} {Fit : ℕ → ℕ → K → Type 0} {rules : Rules 
     look_sound false is = step_sound (Look cpu lock ticket (frees lock log % 2 ^ 64)) refl look_may (looked_cell cell false) cell_words
         (home_after_miss rules.edited opening lock cpu ticket (frees lock log % 2 ^ 64) log waiting (sym is) cell.home cell_home)
 
-    -- a look gives the block exactly where it enters
+    -- a poll returns the block exactly if it enters
     look_finds : (served : Bool) → served ≡ (frees lock log % 2 ^ 64 == ticket)
         → MatchOption (if served then cell.home else None)
         (lock_phase cpu (looked cpu lock ticket log) ≡ Waiting lock ticket)

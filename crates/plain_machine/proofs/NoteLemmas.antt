@@ -1,9 +1,9 @@
--- What notes of events that came again tell.
+-- What notes of repeated events represent.
 use Rattle.std.proofs.Common.{◌≡◌, ℕ, zero, suc, ◌+◌, ◌*◌, List, [], ◌∷◌, ◌++◌, replicate, reverse, refl, ap, sym, ◌∙◌, arith, append_assoc}
 use Rattle.std.proofs.lemmas.{Grind.replicate_next, List.{reverse-append, replicate-append-replicate}}
 use Rattle.{event_log.specs.declared.events.Event.Event, plain_machine.specs.{declared.notes.Note.{Note, TheVariants.Again}, Stored.{repeated, told}}}
 
--- copies read the same from behind
+-- copies are the same in reverse
 reverse_copies : {A : Type 0} (copies : ℕ) (x : A) → reverse (replicate copies x) ≡ replicate copies x
 reverse_copies zero x = refl
 reverse_copies (suc copies) x = reverse-append (x ∷ []) (replicate copies x) ∙ (ap (λ xs. xs ++ x ∷ []) (reverse_copies copies x) ∙ next)

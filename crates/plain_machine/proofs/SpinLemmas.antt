@@ -1,4 +1,5 @@
--- Looks that all miss: they read what the first one reads, and the table agrees with the log that has them.
+-- Looks that all miss: they read what the first one reads, and the table agrees with the log that
+-- has them.
 use Rattle.std.proofs.Common.{arith, ◌≡◌, ℕ, zero, suc, ◌+◌, ◌%◌, ◌^◌, ◌<◌, ◌≤◌, Bool, true, false, List, ◌∷◌, ◌++◌, ◌==◌, Option, IsSome, IfSome, replicate}
 use Rattle.std.proofs.Common.{refl, ap, sym, ◌∙◌}
 use Rattle.event_log.specs.{declared.{ids.{CpuId.CpuId, LockId.LockId, TheConstants.CPUS}, events.Event.{Event, TheVariants.Look}}, Grants.ticket_in}
@@ -15,7 +16,7 @@ module _ {M : Type 0} (cpu : CpuId) (lock : LockId) (ticket read : ℕ) (old : L
   frees_stay at zero = refl
   frees_stay at (suc looks) = frees_stay at looks
 
-  -- the notes of looks of a CPU that waits have its ticket
+  -- the notes of polls of a CPU that waits have its ticket
   pub grown_by : (new : List (Event M)) (looks : ℕ) → lock_phase cpu old ≡ Waiting lock ticket
       → new ≡ replicate looks (Look cpu lock (ticket_in (lock_phase cpu old)) read) ++ old → new ≡ noted looks
   grown_by new looks waiting grows = grows ∙ ap (λ s. replicate looks (Look cpu lock (ticket_in s) read) ++ old) waiting
@@ -27,7 +28,7 @@ module _ {M : Type 0} (cpu : CpuId) (lock : LockId) (ticket read : ℕ) (old : L
 
 module _ {E B O K : Type 0} (Fit : ℕ → ℕ → K → Type 0) (rules : Rules E B O) (opening : LockId → Option B) (cells : List (Option (Cell K B)))
     (cpu : CpuId) (lock : LockId) (ticket read : ℕ) where
-  -- the table agrees with a log that has one look more that missed
+  -- the table agrees with a log that has one failed poll more
   still_sound : (log : List (Event (Mark E))) → lock_phase cpu log ≡ Waiting lock ticket → read ≡ frees lock log % 2 ^ 64 → (read == ticket) ≡ false
       → IsSound Fit rules opening log cells → IsSound Fit rules opening (Look cpu lock ticket read ∷ log) cells
   still_sound log waiting reads misses sound = record {
@@ -54,7 +55,7 @@ module _ {E B O K : Type 0} (Fit : ℕ → ℕ → K → Type 0) (rules : Rules 
       (reads ∙ ap (λ n. n % 2 ^ 64) (sym (frees_stay cpu lock ticket read log lock looks))) misses
       (spun_sound log waiting reads misses sound looks)
 
-  -- words that tell that the spot is not served yet tell that the looks miss
+  -- if the words say that the spot is not yet served, the polls fail
   pub misses_by : (log : List (Event (Mark E))) → IsSound Fit rules opening log cells → IsSome (opening lock) → lock_phase cpu log ≡ Waiting lock ticket
       → (served : Bool) → served ≡ false
       → IfSome (cell_at cells lock) (λ c. (taken given spot : ℕ) → Fit taken given c.words → given ≤ spot → spot < given + CPUS → ticket ≡ spot % 2 ^ 64

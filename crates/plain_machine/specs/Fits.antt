@@ -1,4 +1,4 @@
--- What the words of a lock are after so many spots taken, and given on so often.
+-- The words of a lock after so many spots (ticket indices) were taken, and after so many releases.
 use Rattle.std.specs.Prelude.{◌≡◌, ℕ, ◌%◌, ◌^◌, ◌<◌, length, slice_index}
 use Rattle.{event_log.specs.{declared.ids.TheConstants.CPUS, Grants.WordFits}, plain_machine.specs.declared.line_words.{LockWords.LockWords, Granting.Granting}}
 
@@ -6,7 +6,8 @@ use Rattle.{event_log.specs.{declared.ids.TheConstants.CPUS, Grants.WordFits}, p
 abbrev pub TicketsFit : ℕ → ℕ → LockWords → Type 0
 TicketsFit taken given w = (w.next ≡ taken % 2 ^ 64) × (w.serving ≡ given % 2 ^ 64)
 
--- `next` holds the first count modulo 2^64, and each grant word what came to it last, if the lock was given on so often
+-- `next` holds the first count modulo 2^64, and each grant word the last value stored there after
+-- so many releases
 abbrev pub GrantsFit : ℕ → ℕ → Granting → Type 0
 GrantsFit taken given w =
     (w.lock.next ≡ taken % 2 ^ 64) × (w.served ≡ given % 2 ^ 64) × (length w.lock.words ≡ CPUS)

@@ -1,2 +1,3 @@
--- Lemmas that clauses of impls cite. They are proved here: no reader of a contract needs to believe them.
+-- Lemmas that clauses of impls cite. They are proved here: no reader of a contract needs to believe
+-- them.
 pub mod HomeLaws

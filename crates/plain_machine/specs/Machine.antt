@@ -10,15 +10,16 @@ use Rattle.event_log.specs.declared.events.Event.TheVariants as event
 abbrev pub history : {M : Type 0} → Notes M → List (Event M)
 history log = told (reverse (events_in log.notes)) (reverse (events_in log.marks))
 
--- the past after a look of a CPU with its ticket: it reads the number of earlier frees
+-- the past after a poll of a CPU with its ticket, which reads the number of earlier frees
 abbrev pub looked : {M : Type 0} → CpuId → LockId → ℕ → List (Event M) → List (Event M)
 looked cpu lock ticket past = event.Look cpu lock ticket (frees lock past % 2 ^ 64) ∷ past
 
--- for how many more events a log has room
+-- how many more events a log has room for
 abbrev pub room_left : {M : Type 0} → Notes M → ℕ
 room_left log = room_of log.notes - sum_by weight (events_in log.notes)
 
--- the lock has a cell, whose words are those of the two counts that the log says, and whose home is the one that it says
+-- the lock has a cell, whose words are those of the two counts in the log, and whose block is the
+-- one that the log gives
 pub record HasCell {E B K : Type 0} (Fit : ℕ → ℕ → K → Type 0) (edited : E → B → B) (opening : LockId → Option B) (log : List (Event (Mark E)))
     (cells : List (Option (Cell K B))) (lock : LockId) : Type 0 where
   pub cell : Cell K B
@@ -26,7 +27,7 @@ pub record HasCell {E B K : Type 0} (Fit : ℕ → ℕ → K → Type 0) (edited
   pub words : Fit (draws lock log) (frees lock log) cell.words
   pub home_is : HomeFits edited opening log lock cell.home
 
--- the log keeps the protocol, and each lock's cell is what the log says
+-- the log keeps the protocol, and each lock's cell is the log's
 pub record IsSound {E B O K : Type 0} (Fit : ℕ → ℕ → K → Type 0) (rules : Rules E B O) (opening : LockId → Option B) (log : List (Event (Mark E)))
     (cells : List (Option (Cell K B))) : Type 0
   where

@@ -2,16 +2,16 @@
 use Rattle.std.specs.Prelude.{◌≡◌, Bool, List, [], ◌∷◌, Option, Some, None, if◌then◌else◌, slice_index_or, slice_set}
 use Rattle.{event_log.specs.{declared.ids.LockId.LockId, Locks.lock_number}, plain_machine.specs.declared.cells.Cell.Cell}
 
--- the cell of a lock, None where the table has none
+-- the cell of a lock, None if the table has none
 abbrev pub cell_at : {K B : Type 0} → List (Option (Cell K B)) → LockId → Option (Cell K B)
 cell_at cells lock = slice_index_or cells (lock_number lock) None
 
--- the block that a cell has at home
+-- the block in a cell, while no CPU has it
 abbrev pub home_in : {K B : Type 0} → Option (Cell K B) → Option B
 home_in None = None
 home_in (Some cell) = cell.home
 
--- the block of a lock that the table has at home
+-- the block of a lock in the table, while no CPU has it
 abbrev pub home_at : {K B : Type 0} → List (Option (Cell K B)) → LockId → Option B
 home_at cells lock = home_in (cell_at cells lock)
 
@@ -23,11 +23,11 @@ with_cell cells lock cell = slice_set cells (lock_number lock) (Some cell)
 abbrev pub worded_cell : {K B : Type 0} → Cell K B → K → Cell K B
 worded_cell cell words = record cell { words = words }
 
--- the cell after a look: where it hits, the block has left
+-- the cell after a poll: if it succeeds, the block has left
 abbrev pub looked_cell : {K B : Type 0} → Cell K B → Bool → Cell K B
 looked_cell cell hit = if hit then record cell { home = None } else cell
 
--- the cell with these words and the block at home
+-- the cell with these words and the block put back
 abbrev pub given_cell : {K B : Type 0} → K → B → Cell K B
 given_cell words block = record { words = words; home = Some block }
 

@@ -1,5 +1,5 @@
 //! The words and the block of each lock, in a table that is indexed by the lock. Only `empty_table`
-//! takes memory. No call waits.
+//! allocates. No function blocks.
 
 ghost use Rattle.std.specs.Prelude.{◌≡◌, ℕ, Bool, ◌+◌, ◌%◌, ◌^◌, ◌<◌, ◌≤◌, ◌==◌, IsSome, IfSome, IfOk, All, Some, None, option_map, if◌then◌else◌, length};
 ghost use Rattle.{event_log.specs.{Locks.lock_number, declared.ids.TheConstants.CPUS}, layer_traits.specs.Protocols.OneLock.AreDistinct};
@@ -9,18 +9,18 @@ use crate::line_words::LineWords;
 use event_log::{LockId, NoMemory};
 use std::alloc::Global;
 
-/// The words of one lock, and its block while that is home.
+/// The words of one lock, and its block while that is in the table.
 #[derive(Drop)]
 pub struct Cell<K, B> {
     /// The lock's words.
     pub words: K,
-    /// The block; None while a CPU has it.
+    /// The block; `None` while a CPU has it.
     pub home: Option<B>,
 }
 
-/// Takes a spot in the line of `lock`, and gives its ticket.
+/// Takes a spot (ticket index) at `lock`, and returns its ticket.
 ///
-/// Requires: the lock is there.
+/// Requires: the lock is in the table.
 #[inline(always)]
 pub fn take<K: LineWords, B>(cells: &mut Vec<Option<Cell<K, B>>>, lock: LockId) -> u64
     requires { IsSome (cell_at cells.old.items lock) }
@@ -34,10 +34,10 @@ pub fn take<K: LineWords, B>(cells: &mut Vec<Option<Cell<K, B>>>, lock: LockId) 
     }
 }
 
-/// Looks at `lock` with `ticket`, and gives the block, if the ticket is served and the block is
-/// home.
+/// Polls `lock` with `ticket`, and returns the block if the ticket is served and the block is in
+/// the table.
 ///
-/// Requires: the lock is there.
+/// Requires: the lock is in the table.
 #[inline(always)]
 pub fn look<K: LineWords, B>(
     cells: &mut Vec<Option<Cell<K, B>>>,
@@ -61,9 +61,9 @@ pub fn look<K: LineWords, B>(
     }
 }
 
-/// Whether a look at `lock` with `ticket` would hit.
+/// Whether a poll of `lock` with `ticket` would succeed.
 ///
-/// Requires: the lock is there.
+/// Requires: the lock is in the table.
 #[inline(always)]
 pub fn serves<K: LineWords, B>(cells: &Vec<Option<Cell<K, B>>>, lock: LockId, ticket: u64) -> bool
     requires { IsSome (cell_at cells.now.items lock) }
@@ -76,9 +76,9 @@ pub fn serves<K: LineWords, B>(cells: &Vec<Option<Cell<K, B>>>, lock: LockId, ti
     }
 }
 
-/// Gives `lock` on, and `block` is home.
+/// Releases `lock`, and puts `block` back.
 ///
-/// Requires: the lock is there.
+/// Requires: the lock is in the table.
 #[inline(always)]
 pub fn give<K: LineWords, B: Drop>(cells: &mut Vec<Option<Cell<K, B>>>, lock: LockId, block: B)
     requires { IsSome (cell_at cells.old.items lock) }
@@ -95,9 +95,9 @@ pub fn give<K: LineWords, B: Drop>(cells: &mut Vec<Option<Cell<K, B>>>, lock: Lo
     }
 }
 
-/// The block of `lock`, if it is home.
+/// The block of `lock`, while no CPU has it.
 ///
-/// Requires: the lock is there.
+/// Requires: the lock is in the table.
 pub fn home<K, B>(cells: &Vec<Option<Cell<K, B>>>, lock: LockId) -> Option<&B>
     requires { IsSome (cell_at cells.now.items lock) }
     ensures { IfSome (cell_at cells.now.items lock) (λ cell. option_map (λ block. block.now) result ≡ cell.home) }
@@ -110,7 +110,7 @@ pub fn home<K, B>(cells: &Vec<Option<Cell<K, B>>>, lock: LockId) -> Option<&B>
 
 /// The words of `lock`.
 ///
-/// Requires: the lock is there.
+/// Requires: the lock is in the table.
 pub fn words<K: Copy, B>(cells: &Vec<Option<Cell<K, B>>>, lock: LockId) -> K
     requires { IsSome (cell_at cells.now.items lock) }
     ensures { IfSome (cell_at cells.now.items lock) (λ cell. result ≡ cell.words) }
@@ -121,7 +121,7 @@ pub fn words<K: Copy, B>(cells: &Vec<Option<Cell<K, B>>>, lock: LockId) -> K
     }
 }
 
-/// How long a table has to be, so that each of these locks has a slot in it.
+/// The length of a table that has a slot for each of these locks.
 pub fn table_len<B>(blocks: &Vec<(LockId, B)>) -> usize
     ensures { All (λ entry. lock_number entry.0 < result) blocks.now.items }
 {
@@ -137,7 +137,7 @@ pub fn table_len<B>(blocks: &Vec<(LockId, B)>) -> usize
 
 /// A table of `len` slots, all empty.
 ///
-/// Errors: `NoMemory` if the table could not be had.
+/// Errors: `NoMemory` if the allocation failed.
 pub fn empty_table<K: Drop, B: Drop>(
     alloc: Global,
     len: usize,
@@ -166,7 +166,7 @@ pub fn put<K: LineWords, B: Drop>(cells: &mut Vec<Option<Cell<K, B>>>, lock: Loc
 
 /// Puts a cell with fresh words and its block in the slot of each lock.
 ///
-/// Requires: no lock stands twice, and the table has a slot for each.
+/// Requires: no lock occurs twice, and the table has a slot for each.
 pub fn fill<K: LineWords, B: Drop>(cells: &mut Vec<Option<Cell<K, B>>>, blocks: Vec<(LockId, B)>)
     requires distinct { AreDistinct blocks.items }
     requires within { All (λ entry. lock_number entry.0 < length cells.old.items) blocks.items }

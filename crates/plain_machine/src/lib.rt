@@ -1,6 +1,5 @@
 //! The owned machine: one state that has the words and the blocks of all locks, and stores the log
-//! of what happened to them. Its locks have the two words of a ticket lock, or a grant word for
-//! each waiter.
+//! of their events. Its locks have the two words of a ticket lock, or a grant word for each waiter.
 //!
 //! One section of CPU 0 over the words of a ticket lock:
 //!

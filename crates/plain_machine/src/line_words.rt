@@ -1,41 +1,41 @@
-//! The words of one lock, by which CPUs stand in line. No call takes memory or waits.
+//! The words of one lock, which order the CPUs that wait for it. No function allocates or blocks.
 
 ghost use Rattle.std.specs.Prelude.{◌≡◌, ℕ, ◌+◌, ◌%◌, ◌^◌, ◌<◌, ◌≤◌, ◌==◌};
 ghost use Rattle.event_log.specs.declared.ids.TheConstants.{CPUS};
 
 use event_log::CPUS;
 
-/// The words of one lock. What they are worth is said by two true counts: how many spots of the
-/// lock's line were taken, and how often the lock was given on.
+/// The words of one lock. They represent two exact counts: how many spots (ticket indices) of the
+/// lock were taken, and how often the lock was released.
 pub trait LineWords: Copy + Drop {
-    /// After so many spots taken, and given on so often, the words may be these.
+    /// After so many spots taken and so many releases, the words may be these.
     ghost Fit: { ℕ → ℕ → Self → Type 0 };
 
-    /// The words of a lock at which nobody has been.
+    /// The words of a lock that no CPU has used.
     fn fresh() -> Self
         ensures { Fit 0 0 result };
 
-    /// Takes a spot, and gives its ticket: how many were taken before, modulo 2^64.
+    /// Takes a spot, and returns its ticket: how many were taken before, modulo 2^64.
     fn take(&mut self) -> u64
         ensures { (taken given : ℕ) → Fit taken given self.old → (result ≡ taken % 2 ^ 64) × Fit (taken + 1) given self.new };
 
-    /// Whether the spot of this ticket is the one that is served: of spots so near one another
-    /// that they belong to the CPUs of one machine, the words tell it exactly.
+    /// Whether the spot of this ticket is served. The words determine it exactly among spots that
+    /// are as near one another as those of the CPUs of one machine.
     fn serves(&self, ticket: u64) -> bool
         ensures { (taken given spot : ℕ) → Fit taken given self.now → given ≤ spot → spot < given + CPUS → ticket ≡ spot % 2 ^ 64
             → result ≡ (given == spot) };
 
-    /// Gives the lock on, from the spot that is served to the next.
+    /// Releases the lock: the next spot is served.
     fn give(&mut self)
         ensures { (taken given : ℕ) → Fit taken given self.old → Fit taken (given + 1) self.new };
 }
 
-/// The two words of a ticket lock, both modulo 2^64.
+/// The two words of a ticket lock (Mellor-Crummey and Scott 1991), both modulo 2^64.
 #[derive(Clone, Copy, Debug, PartialEq, Eq)]
 pub struct LockWords {
-    /// The ticket that the next draw gives: how often the lock was drawn at.
+    /// The ticket that the next draw returns: how often a ticket of the lock was drawn.
     pub next: u64,
-    /// The ticket whose look hits: how often the lock was freed.
+    /// The ticket whose poll succeeds: how often the lock was freed.
     pub serving: u64,
 }
 
@@ -69,23 +69,24 @@ impl LineWords for LockWords {
     }
 }
 
-/// The words of a lock with a grant word for each waiter, all modulo 2^64.
+/// The words of a lock with a grant word for each waiter, as in Anderson's array lock (1990), all
+/// modulo 2^64.
 #[derive(Clone, Copy, Debug, PartialEq, Eq)]
 pub struct GrantLockWords {
-    /// The ticket that the next take gives: how many were taken.
+    /// The ticket that the next take returns: how many were taken.
     pub next: u64,
-    /// The grant words. The one of ticket n is at n modulo [`CPUS`], and holds n + 1 once that
-    /// ticket is served.
+    /// The grant words. Ticket n has the word n modulo [`CPUS`], which holds n + 1 once the ticket
+    /// is served.
     pub words: [u64; CPUS],
 }
 
-/// The words of a lock with grant words, and the ticket that is served: a give stores for the
-/// ticket after it, and is not told which that is.
+/// The words of a lock with grant words, and the ticket that is served. A give needs it, because it
+/// stores for the next ticket and has no ticket as an argument.
 #[derive(Clone, Copy)]
 pub struct Granting {
     /// The lock's words.
     pub lock: GrantLockWords,
-    /// The ticket that is served: that of the CPU inside, where there is one.
+    /// The ticket that is served: that of the CPU in the critical section, if there is one.
     pub served: u64,
 }
 
@@ -123,7 +124,7 @@ impl LineWords for Granting {
     }
 }
 
-/// Which grant word a ticket waits at.
+/// The index of the grant word that a ticket polls.
 #[inline(always)]
 fn word_of(ticket: u64) -> usize
     ensures is { result ≡ ticket % CPUS }

@@ -1,16 +1,17 @@
 //! Edits as the log keeps them.
 //!
-//! No call takes memory, and none waits.
+//! No function allocates or blocks.
 
 ghost use Rattle.std.specs.Prelude.{◌≡◌};
 
 use layer_traits::Ghost;
 use std::marker::Model;
 
-/// An edit in the log: at run time what was handed on of it, and for clauses the whole edit.
+/// An edit in the log: at run time the part that was passed to the machine, and only for clauses
+/// the whole edit.
 #[derive(Drop)]
 pub struct LoggedEdit<E, H> {
-    /// What was handed on.
+    /// The part that was passed to the machine.
     pub handed: H,
     edit: Ghost<E>,
 }
@@ -22,7 +23,7 @@ impl<E, H> Model for LoggedEdit<E, H> {
 }
 
 impl<E, H> LoggedEdit<E, H> {
-    /// This edit, of which this was handed on.
+    /// The log entry of this edit, with the part that was passed to the machine.
     #[inline(always)]
     pub fn of(handed: H, edit: &E) -> LoggedEdit<E, H>
         ensures { result ≡ edit.now }

@@ -1,5 +1,5 @@
-//! The stored log: which CPU did what at which lock. Only `Notes::with_room` takes memory. No call
-//! waits.
+//! The stored log: which CPU did what at which lock. Only `Notes::with_room` allocates. No function
+//! blocks.
 
 ghost use Rattle.std.specs.Prelude.{◌≡◌, ◌+◌, ◌%◌, ◌^◌, ◌≤◌, ◌<◌, ◌++◌, ◌∷◌, [], length, replicate, sum_by, IfOk};
 ghost use Rattle.{event_log.specs.Log.{events_in, room_of}, plain_machine.specs.Stored.weight};
@@ -7,26 +7,26 @@ ghost use Rattle.{event_log.specs.Log.{events_in, room_of}, plain_machine.specs.
 use event_log::{CpuId, EventLog, LockId, NoMemory};
 use std::alloc::Global;
 
-/// What the log stores of an event. The numbers that a draw or a look gave are not stored: those are
-/// what the replay of the events before it says, so a note takes four bytes.
+/// What the log stores of an event. The numbers that `draw` or `look` returned are not stored,
+/// because a replay of the earlier events yields them; a note therefore takes four bytes.
 #[derive(Clone, Copy)]
 pub enum Note {
     /// The CPU drew a ticket at the lock.
     Draw(CpuId, LockId),
-    /// The CPU looked at the lock with its ticket.
+    /// The CPU polled the lock with its ticket.
     Look(CpuId, LockId),
     /// The CPU freed the lock.
     Free(CpuId, LockId),
-    /// The event before came so many times more.
+    /// The previous event occurred so many times more.
     Again(u16),
 }
 
-/// How many times more one note says that an event came, at most: the largest `u16`.
+/// The most repetitions in one note: the largest `u16`.
 const MOST_TIMES: usize = 65_535;
 
-/// A log of the events on the words of all locks, with room for a number of events that is fixed
-/// when it is made: notes of the events, and the mark of each free, both oldest first. Looks in a
-/// row are a note and how often it came again. No call after `with_room` takes memory.
+/// A log of the events on the words of all locks: notes of the events, and the mark of each free,
+/// both oldest first. The room for events is fixed when the log is made. Consecutive polls are one
+/// note and its repetitions. No function after `with_room` allocates.
 #[derive(Drop)]
 pub struct Notes<M> {
     notes: EventLog<Note>,
@@ -43,7 +43,7 @@ impl<M> Notes<M> {
 
     /// An empty log with room for `n` events.
     ///
-    /// Errors: `NoMemory` where the room could not be had; nothing was made.
+    /// Errors: `NoMemory` if an allocation failed; nothing was made.
     pub fn with_room(alloc: Global, n: usize) -> Result<Notes<M>, NoMemory>
     where
         M: Drop,
@@ -55,7 +55,7 @@ impl<M> Notes<M> {
         Ok(Notes { notes, marks })
     }
 
-    /// Notes a draw.
+    /// Records a draw.
     ///
     /// Requires: there is room for an event.
     #[inline(always)]
@@ -67,7 +67,7 @@ impl<M> Notes<M> {
         self.put(Note::Draw(cpu, lock));
     }
 
-    /// Notes a look of a CPU that waits, with its ticket.
+    /// Records a poll by a CPU that waits, with its ticket.
     ///
     /// Requires: there is room for an event.
     #[inline(always)]
@@ -80,7 +80,7 @@ impl<M> Notes<M> {
         self.put(Note::Look(cpu, lock));
     }
 
-    /// Notes so many looks of a CPU that waits, with its ticket.
+    /// Records so many polls by a CPU that waits, with its ticket.
     ///
     /// Requires: there is room for as many events.
     #[inline(never)]
@@ -101,7 +101,7 @@ impl<M> Notes<M> {
         }
     }
 
-    /// Notes a free with its mark.
+    /// Records a free with its mark.
     ///
     /// Requires: there is room for an event.
     #[inline(always)]
@@ -116,7 +116,8 @@ impl<M> Notes<M> {
         self.marks.push_reserved(mark);
     }
 
-    /// Notes that the last event came so many times more. It stands out of line: most looks are single.
+    /// Records that the last event occurred so many times more. It is not inlined, because most
+    /// polls are single.
     #[inline(never)]
     fn again(&mut self, times: usize)
         requires { times ≤ room_left self.old }
@@ -131,7 +132,7 @@ impl<M> Notes<M> {
         }
     }
 
-    /// Puts `note` at the end of the notes.
+    /// Appends `note` to the notes.
     #[inline(always)]
     fn put(&mut self, note: Note)
         requires some { 0 < weight note }

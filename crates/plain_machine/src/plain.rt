@@ -1,4 +1,4 @@
-//! The owned machine. Only `open` takes memory. No call waits.
+//! The owned machine. Only `open` allocates. No function blocks.
 
 ghost use Rattle.std.specs.Prelude.{◌≡◌, ℕ, ◌%◌, ◌^◌, ◌<◌, [], IsSome, IsNone, IfSome, IfOk, option_map, ◌↔◌};
 
@@ -11,14 +11,14 @@ use layer_traits::{GrantWords, Mark, OwnedWords, SplitEdit, UsesGrantWords, Word
 use std::alloc::Global;
 use std::snapshot::Snapshot;
 
-/// One owned state that has the words and the blocks of all locks, and stores the log of what
-/// happened to them. It acts for every CPU. No call after [`Plain::open`] takes memory. Its locks
-/// are ticket locks, if no other words are named.
+/// One owned state that has the words and the blocks of all locks, and stores the log of their
+/// events. It acts for every CPU. No function after [`Plain::open`] allocates. Its locks are ticket
+/// locks by default.
 #[derive(Drop)]
 pub struct Plain<E: SplitEdit, K: LineWords = LockWords> {
     log: Notes<Mark<LoggedEdit<E, E::Handed>>>,
     cells: Vec<Option<Cell<K, E::Block>>>,
-    // The blocks that the locks opened with, for clauses alone.
+    // The blocks that the locks opened with, only for clauses.
     opening: Snapshot<Vec<(LockId, E::Block)>>,
 }
 
@@ -30,12 +30,11 @@ impl<E: SplitEdit, K: LineWords> Plain<E, K> {
     ghost use Rattle.{layer_traits.specs.Protocols.{OneLock.{SomeoneInside, opened}, WordsProtocol.sections}, plain_machine.specs.Machine.{IsServed, history}};
     ghost use Rattle.plain_machine.specs.{Machine.room_left, Table.home_at};
 
-    /// A machine in which each lock has its block at home and nobody has been at its words, with
-    /// room for `room` events.
+    /// A machine in which no CPU has used a lock or has its block, with room for `room` events.
     ///
-    /// Requires: no lock stands twice.
+    /// Requires: no lock occurs twice.
     ///
-    /// Errors: `NoMemory` where the room or the table of locks could not be had.
+    /// Errors: `NoMemory` if the allocation of the log or of the table of locks failed.
     pub fn open(
         alloc: Global,
         blocks: Vec<(LockId, E::Block)>,
@@ -62,7 +61,7 @@ impl<E: SplitEdit, K: LineWords> Plain<E, K> {
 
     /// The block of `lock`: `None` exactly while a CPU has it.
     ///
-    /// Requires: the holder acts for some CPU, and the lock is there.
+    /// Requires: the holder acts for some CPU, and the lock is one of the machine.
     pub fn home(&self, lock: LockId) -> Option<&E::Block>
         requires acts { (c : CpuId)
             × IsServed K.Fit E.rules (opened self.now.opening.value.items) (history self.now.log) self.now.cells.items c }
@@ -79,9 +78,10 @@ impl<E: SplitEdit, K: LineWords> Plain<E, K> {
 impl<E: SplitEdit> Plain<E, LockWords> {
     ghost use Rattle.event_log.specs.WordsLog.{draws, frees};
 
-    /// The words of `lock`, modulo 2^64: how often it was drawn at, and how often it was freed.
+    /// The words of `lock`, modulo 2^64: how many tickets were drawn, and how often the lock was
+    /// freed.
     ///
-    /// Requires: the holder acts for some CPU, and the lock is there.
+    /// Requires: the holder acts for some CPU, and the lock is one of the machine.
     pub fn words(&self, lock: LockId) -> LockWords
         requires acts { (c : _) × ⟦<Plain<E> as Words>⟧.ActsFor self.now c }
         requires lock { IsSome (⟦<Plain<E> as Words>⟧.opening self.now lock) }
@@ -98,7 +98,7 @@ impl<E: SplitEdit> Plain<E, Granting> {
     /// The words of `lock`: how many tickets were taken, modulo 2^64, and what the gives left in
     /// each grant word.
     ///
-    /// Requires: the holder acts for some CPU, and the lock is there.
+    /// Requires: the holder acts for some CPU, and the lock is one of the machine.
     pub fn words(&self, lock: LockId) -> GrantLockWords
         requires acts { (c : _) × ⟦<Plain<E, Granting> as GrantWords>⟧.ActsFor self.now c }
         requires lock { IsSome (⟦<Plain<E, Granting> as GrantWords>⟧.opening self.now lock) }

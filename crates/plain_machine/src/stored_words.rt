@@ -1,19 +1,20 @@
-//! An example of another lock: a ticket lock that is given on by a store. No plan can name it.
+//! An example of another lock: a ticket lock that is released by a store. No plan can name it.
 
 ghost use Rattle.std.specs.Prelude.{◌≡◌, ℕ, ◌+◌, ◌%◌, ◌^◌, ◌<◌, ◌≤◌, ◌==◌};
 ghost use Rattle.event_log.specs.declared.ids.TheConstants.{CPUS};
 
 use crate::LineWords;
 
-/// The words of a ticket lock whose holder gives it on by a store, and the ticket that is served: a
-/// give stores for the ticket after it, and is not told which that is. All are modulo 2^64.
+/// The words of a ticket lock whose holder releases it by a store, and the ticket that is served. A
+/// give needs it, because it stores the next ticket and has no ticket as an argument. All are
+/// modulo 2^64.
 #[derive(Clone, Copy, Debug, PartialEq, Eq)]
 pub struct StoredWords {
-    /// The ticket that the next take gives: how many were taken.
+    /// The ticket that the next take returns: how many were taken.
     pub next: u64,
-    /// What was stored last: the ticket whose look hits.
+    /// What was stored last: the ticket whose poll succeeds.
     pub serving: u64,
-    /// The ticket that is served: that of the CPU inside, where there is one.
+    /// The ticket that is served: that of the CPU in the critical section, if there is one.
     pub served: u64,
 }
 

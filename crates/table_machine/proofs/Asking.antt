@@ -1,4 +1,4 @@
--- What the steps of a key ask of the table.
+-- What the steps of a key request of the table.
 use Rattle.std.proofs.Common.{◌≡◌, ℕ, ◌+◌, ◌<◌, ◌≤◌, ◌%◌, ◌^◌, List, [], ◌∷◌, ◌++◌, Option, Some, IsSome, option_map, refl, ap, sym, ◌∙◌, arith, length}
 use Rattle.{atomic_table.specs.{Seated.TableId, Table.{Me, step, Allows, rest}}, event_log.specs.declared.ids.{CpuId.CpuId, LockId.LockId, TheConstants.CPUS}}
 use Rattle.event_log.specs.{declared.events.Event.Event, History.{Adds, Grows, IsLawful}, WordsLog.{cpu_of_event, lock_phase, LockPhase, Idle, Waiting}}
@@ -21,7 +21,7 @@ pub one_table : {E B : Type 0} (table z : TableId) (start : List (LockId × B)) 
 one_table table z start n cpu me d b d_is b_is of = rw (← d_is, ← b_is) at of
 
 module _ {E B O : Type 0} (R : Rules E B O) where
-  -- a token that sees the log for one CPU alone is that of its key
+  -- a token that sees the log for exactly one CPU is that of its key
   pub key_at : (cpu : CpuId) (ticket : ℕ) (start : List (LockId × B)) (w : Me (Home E B) (View E B)) (phase : LockPhase) → w.0 ≡ mine start cpu w.0.seen
       → lock_phase cpu w.0.seen ≡ phase → Carries start phase w.1 → Remembers ticket phase → IsLawful (MayCome (R.allowed (opened start))) w.0.seen
       → IsKey R cpu ticket w
@@ -34,7 +34,8 @@ module _ {E B O : Type 0} (R : Rules E B O) where
         legal = rw started legal;
       }
 
-  -- a key and a word of a lock in a table: which table the key is of and which is asked, the blocks that the latter opened with, the token of the key
+  -- a key and a word of a lock in a table: which table the key is of and which one serves the
+  -- request, the blocks that the latter opened with, the token of the key
   module _ (K : WordKind) (law : IsWordKind K) (table z : TableId) (start : List (LockId × B)) (n id word : ℕ) (words_are : z.words ≡ word_count (length start))
       (cpu : CpuId) (kept : ℕ) (me : Me (Home E B) (View E B)) (key : IsKey R cpu kept me) (d : SeatView E B) (b : TableView B)
       (d_is : seat_view_of cpu table me ≡ d) (b_is : table_view_of z start n ≡ b) (of : IsOf b d) (lock : LockId) (exists : IsSome (opened d.start lock)) where
@@ -48,7 +49,7 @@ module _ {E B O : Type 0} (R : Rules E B O) where
     me_is : me ≡ (mine start cpu me.0.seen, me.1)
     me_is = ap (λ (v : View E B). (v, me.1)) (key.view ∙ ap (λ (s : List (LockId × B)). mine s cpu me.0.seen) here.1)
 
-    -- the word lies in the table
+    -- the word is within the table
     lies : (number : ℕ) → number ≤ CPUS → word ≡ word_at (rank_of b.start lock) number → (word ≡ word_at (rank_of start lock) number) × (word < z.words)
     lies number within is =
         let lands : word ≡ word_at (rank_of start lock) number = rw (← b_is) at is in
@@ -68,7 +69,7 @@ module _ {E B O : Type 0} (R : Rules E B O) where
         let nothing : me.1 ≡ [] = rw waiting at key.held in
         (here.0, lands.1, rw (me_is, nothing, lands.0) (looks_allowed K R n start law z.slots id cpu me.0.seen lock ticket there waiting))
 
-    -- what a write asks that gives the lock on: a store of a number, or an addition of 1
+    -- the request of a write that releases the lock: a store of a number, or an addition of 1
     pub free_asks : (ticket : ℕ) (block : B) (edit : E) → lock_phase d.cpu d.seen ≡ Holding lock ticket
         → option_map (R.edited edit) (block_after R.edited (opened d.start) lock (sections d.seen)) ≡ Some block
         → StaysAllowed (R.allowed (opened d.start)) (sections d.seen) (section d.cpu lock edit) → (now : TableId) (v : Me (Home E B) (View E B))
@@ -88,7 +89,7 @@ module _ {E B O : Type 0} (R : Rules E B O) where
               refl refl (rw (← d_is, here.1) at edited) (rw (← d_is, here.1) at stays) (given_on stored) (λ m. ap (λ o. given_on o m) (sym stores))),
         )
 
--- an event of the own CPU, to the holder that acts for that CPU alone
+-- an event of the own CPU, for a holder that acts only for that CPU
 pub seat_adds : {E B : Type 0} (k d : SeatView E B) (cpu : CpuId) (e : CpuId → Event (Mark E)) (P : Type 0) (new : List (Event (Mark E))) → k ≡ d → cpu ≡ d.cpu
     → Adds (IsThisCpu k.cpu) cpu_of_event (e k.cpu) k.seen new → Adds (λ c. (c ≡ d.cpu) × P) cpu_of_event (e cpu) d.seen new
 seat_adds k d cpu e P new k_is same adds =

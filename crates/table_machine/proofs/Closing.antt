@@ -13,7 +13,7 @@ use mathlib.Core.Option.{none, some}
 use native.Mathlib.Decide.{dec_le}
 use lib.ListN.{get_elem?, length-map}
 
--- what lies in the table once it is closed
+-- the contents of the table after it is closed
 pub record Settled {E B O : Type 0} (R : Rules E B O) (table_view : TableView B) (seat_views : List (SeatView E B)) (homes : List (Home E B)) : Type 0 where
   pub log : List (Event (Mark E))
   pub legal : IsLawful (MayCome (R.allowed (opened table_view.start))) log
@@ -24,7 +24,7 @@ pub record Settled {E B O : Type 0} (R : Rules E B O) (table_view : TableView B)
       × (block_after R.edited (opened table_view.start) o.0 (sections log) ≡ Some b)
 
 module _ {E B O : Type 0} (R : Rules E B O) where
-  -- where all keys are in, no CPU is inside a lock, and each block is at home
+  -- if all keys are merged, no CPU is inside a lock, and each block is in its slot
   pub settles : (K : WordKind) (z : TableId) (start : List (LockId × B)) (n : ℕ) (table_view : TableView B) (v : View E B) (seat_views : List (SeatView E B))
       (id : ℕ) (words : List ℕ) (homes : List (Home E B)) → table_view_of z start n ≡ table_view → AreDistinct start → Gathered table_view.start v seat_views
       → Covers table_view.cpus seat_views → Final (Seen (TableInv K R n start) id v) words homes → Settled R table_view seat_views homes

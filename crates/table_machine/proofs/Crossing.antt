@@ -1,5 +1,6 @@
--- Keys and seats may go from thread to thread, and threads may share a table. The edit in a slot is for clauses alone, and a type that holds such a value gets
--- no lemma of this by itself: so these are the lemmas of the slot, and of all that is made of slots.
+-- Keys and seats may move between threads, and threads may share a table. The edit in a slot is
+-- only for clauses, and the toolchain derives no such lemma for a type that contains such a value;
+-- therefore these are the lemmas of the slot, and of all that is made of slots.
 use denote.RattleType.{RattleType}
 use denote.Ref.{NamedLft}
 use denote.Param.SendFields.{declared_send, declared_sync}
@@ -23,7 +24,7 @@ use Rattle.atomic_table.proofs.owned.Table.TheSendSync as table_crosses
 use Rattle.event_log.proofs.ids.LockId.TheSendSync as lock_crosses
 use Rattle.std.proofs.Crossing as heap
 
--- what is meant and has no bytes goes from thread to thread, whatever it is
+-- a value that exists only for clauses and has no bytes may move between threads, whatever it is
 pub ghost_send : (T : RattleType) → IsSend (ghost_of.the_row T)
 ghost_send T = view_send _ _ _ _ _ (declared_send (ghost_inside.the_type T) (search (sendable, crosses), tt))
 
@@ -49,7 +50,7 @@ shared_sync E K B O H A g k s y = view_sync _ _ _ _ _ (declared_sync (shared_ins
   ),
 ))
 
--- and a seat at it goes from thread to thread
+-- and a seat at it may move between threads
 pub seat_send : (a : NamedLft) (E K B O H A : RattleType) (g : _) (k : _) → IsSend B → IsSync B → IsSend (seat.the_row a E K B O H A g k)
 seat_send a E K B O H A g k s y = view_send _ _ _ _ _ (declared_send (seat_inside.the_type a E K B O H A g k) (
   key_send E B O H A g s,

@@ -13,7 +13,7 @@ has_from c k (suc m) (inl e) = let same : c.0 ≡ k = ap (λ (d : CpuId). d.0) e
 has_from c k (suc m) (inr h) = let more = has_from c (k + 1) m h in (omega arith, omega arith)
 
 module _ (K : WordKind) {E B O : Type 0} (R : Rules E B O) (n : ℕ) (start : List (LockId × B)) where
-  -- the first CPU of the dealer's seat goes to a seat of its own
+  -- the first CPU of the dealer's seat moves to a new seat
   pub deals_split : (id k m : ℕ) → Splits (TableInv K R n start) id (caught_up start (cpus_from k (suc m)) []) (caught_up start (cpus_from (k + 1) m) [])
       (mine start (record { 0 = k }) [])
   deals_split id k m s kept at =

@@ -1,4 +1,5 @@
--- An element of a list: the definitions say it by `slice_get`, and the kit's table says it of its views and slots by `get_elem?`.
+-- An element of a list: the definitions say it by `slice_get`, and the kit's table says it of its
+-- views and slots by `get_elem?`.
 use Rattle.std.proofs.Common.{◌≡◌, ℕ, zero, suc, List, [], ◌∷◌, ◌++◌, length, Some, slice_get, ap, sym}
 use Rattle.atomic_table.proofs.Lists.{at_longer, at_last}
 use mathlib.Core.Option.{some, some-injective, some-ne-none}

@@ -1,4 +1,4 @@
--- Where a lock lies among those of the opening.
+-- The position of a lock among those of the opening.
 use Rattle.std.proofs.Common.{◌≡◌, ℕ, zero, suc, ◌<◌, Bool, true, false, if◌then◌else◌, List, [], ◌∷◌, length, map, Some, IsSome, refl, ap, sym, ◌∙◌, arith}
 use Rattle.event_log.{specs.{declared.ids.LockId.LockId, History.same_lock}, proofs.Same.{same_lock_true, same_lock_self}}
 use Rattle.{layer_traits.specs.Protocols.OneLock.{opened, IsMissing, AreDistinct}, table_machine.specs.Layout.rank_of}
@@ -15,7 +15,7 @@ module _ {B : Type 0} where
   rank_below [] a there = absurd cc
   rank_below (o ∷ rest) a there = grind (arith, rank_below rest a)
 
-  -- the opening block of a lock stands at its rank, through any reading of the blocks
+  -- the opening block of a lock is at its rank, through any reading of the blocks
   pub opened_there : {C : Type 0} (f : B → C) (start : List (LockId × B)) (a : LockId) → IsSome (opened start a)
       → (b : B) × (opened start a ≡ Some b) × (get_elem? (map (λ o. f o.1) start) (rank_of start a) ≡ some (f b))
   opened_there f [] a there = absurd cc
@@ -31,7 +31,7 @@ module _ {B : Type 0} where
   missing_at (p ∷ rest) a zero o h at = rw (some-injective p o at) at h.0
   missing_at (p ∷ rest) a (suc i) o h at = missing_at rest a i o h.1 at
 
-  -- where no lock stands twice, the lock at a rank has that rank
+  -- if no lock occurs twice, the lock at a rank has that rank
   pub rank_at : (start : List (LockId × B)) (i : ℕ) (o : LockId × B) → AreDistinct start → get_elem? start i ≡ some o
       → (rank_of start o.0 ≡ i) × IsSome (opened start o.0)
   rank_at [] i o h at = absurd (some-ne-none o (sym at))

@@ -1,4 +1,4 @@
--- What the steps of a key tell.
+-- What the steps of a key return.
 use Rattle.std.proofs.Common.{get_or, ◌≡◌, ℕ, inl, inr, true, false, List, [], ◌∷◌, ◌++◌, Some, IsSome, refl, ap, sym, ◌∙◌}
 use Rattle.{atomic_table.specs.{Seated.TableId, Table.{Me, step, rest}}, event_log.specs.declared.{ids.{CpuId.CpuId, LockId.LockId}, events.Event.Event}}
 use Rattle.event_log.specs.{declared.events.Event.TheVariants.{Draw, Look, Free}, History.Adds, WordsLog.{cpu_of_event, left_by, lock_phase, LockPhase, Idle}}
@@ -10,7 +10,7 @@ use Rattle.table_machine.proofs.{Asking.{key_at, seat_view_of}, Finding.rank_sam
 use mathlib.Core.Option.{none}
 
 module _ {E B O : Type 0} (R : Rules E B O) where
-  -- a step of a key: its token goes on from its own event
+  -- a step of a key: its token continues from its own event
   pub record Went (d : SeatView E B) (cpu : CpuId) (ticket : ℕ) (e : Event (Mark E)) (w : Me (Home E B) (View E B)) : Type 0 where
     pub start : d.start ≡ w.0.start
     pub adds : Adds (IsThisCpu d.cpu) cpu_of_event e d.seen w.0.seen
@@ -28,7 +28,7 @@ module _ {E B O : Type 0} (R : Rules E B O) where
         key = key_at R cpu ticket v.0.start w phase view stands carries remembers moves.legal;
       }
 
-  -- where a CPU stands after its own event
+  -- the phase of a CPU after its own event
   stands_after : (cpu : CpuId) (e : Event (Mark E)) (v w : View E B) → cpu_of_event e ≡ cpu → Moves R v w e → lock_phase cpu w.seen ≡ left_by e
   stands_after cpu e v w its moves = rw (← its) (ap (lock_phase (cpu_of_event e)) moves.adds.is ∙ lock_phase_own e (moves.adds.others ++ v.seen))
 
@@ -49,7 +49,7 @@ module _ {E B O : Type 0} (R : Rules E B O) where
       (stands_after cpu (Draw (owner v.0.cpus) lock found) v.0 w.0 own moves) (told.held ∙ nothing) refl in
       (done.start, done.adds, done.key)
 
-  -- what a look that missed leaves
+  -- what a failed poll leaves
   pub record LookMissed (d : SeatView E B) (cpu : CpuId) (kept : ℕ) (lock : LockId) (ticket : ℕ) (w : Me (Home E B) (View E B)) : Type 0 where
     pub start : d.start ≡ w.0.start
     pub read : ℕ
@@ -57,7 +57,7 @@ module _ {E B O : Type 0} (R : Rules E B O) where
     pub waits : lock_phase d.cpu w.0.seen ≡ Waiting lock ticket
     pub key : IsKey R cpu kept w
 
-  -- what a look that hit leaves
+  -- what a successful poll leaves
   pub record LookHit (d : SeatView E B) (cpu : CpuId) (kept : ℕ) (lock : LockId) (ticket rank : ℕ) (w : Me (Home E B) (View E B)) : Type 0 where
     pub start : d.start ≡ w.0.start
     pub read : ℕ
@@ -75,7 +75,7 @@ module _ {E B O : Type 0} (R : Rules E B O) where
     own : owner v.0.cpus ≡ cpu
     own = ap (λ (u : View E B). owner u.cpus) key.view
 
-    -- the look is at the lock, and with the ticket, with which the CPU waits
+    -- the poll is at the lock, and with the ticket, with which the CPU waits
     looked : (d : SeatView E B) → seat_view_of cpu table v ≡ d → lock_phase d.cpu d.seen ≡ Waiting lock ticket → (told : LookedAtWord K R v found w)
         → (told.lock ≡ lock) × (told.ticket ≡ ticket) × (v.1 ≡ []) × (kept ≡ ticket)
     looked d d_is waits told =
@@ -136,7 +136,8 @@ module _ {E B O : Type 0} (R : Rules E B O) where
               ∙ ap (λ (l : List (ℕ × Home E B)). (rank, carries.0) ∷ l) (sym (ap rest carries.1))),
         )
 
-  -- the event is the free of the lock that the CPU was inside, where the slot that the seat carries was exchanged for one with this block and this edit
+  -- the event is the free of the lock that the CPU was inside, if the slot that the seat carries
+  -- was exchanged for one with this block and this edit
   module _ (cpu : CpuId) (kept : ℕ) (table : TableId) (me : Me (Home E B) (View E B)) (lock : LockId) (ticket : ℕ) (block : B) (edit : E) (d : SeatView E B)
       (d_is : seat_view_of cpu table me ≡ d) (key : IsKey R cpu kept me) (inside : lock_phase d.cpu d.seen ≡ Holding lock ticket) where
     free_reads : (w : Me (Home E B) (View E B)) (rank : ℕ) (x : Home E B) → x ≡ record { block = Some block; edit = Some edit }

@@ -16,7 +16,7 @@ zeros_more n words more was is =
     let count : word_count n + 8 * (CPUS + 1) ≡ word_count (n + 1) = omega arith in
     rw (is, was, replicate-append-replicate, count)
 
--- the row tells the ranks of the locks from this rank on
+-- the row gives the ranks of the locks from this rank upwards
 abbrev pub AreRanksFrom : {B : Type 0} → List ℕ → List (LockId × B) → ℕ → Type 0
 AreRanksFrom row blocks from = (lock : LockId) → IsSome (opened (drop from blocks) lock)
     → get_or row (lock_number lock) 0 ≡ from + rank_of (drop from blocks) lock

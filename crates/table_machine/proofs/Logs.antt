@@ -1,4 +1,4 @@
--- What events of others leave alone.
+-- What environment events leave unchanged.
 use Rattle.std.proofs.Common.{◌≡◌, ℕ, Bool, true, false, if◌then◌else◌, List, [], ◌∷◌, ◌++◌, Option, refl, ap, sym, ◌∙◌, append_assoc, append-nil, eq-eqb}
 use Rattle.event_log.specs.{declared.{ids.{CpuId.CpuId, LockId.LockId}, events.Event.{Event, TheVariants.{Draw, Look, Free}}}, History.{same_cpu, same_lock}}
 use Rattle.event_log.specs.{History.{AreOthers, own_events}, WordsLog.{cpu_of_event, lock_phase, IsLegalWords, Holding}, Sections.block_after}
@@ -13,7 +13,7 @@ module _ {M : Type 0} where
     others = others_both cpu_of_event c s.more t.more s.others t.others;
   }
 
-  -- events of others put on top of what stood since
+  -- environment events appended to what was added since
   pub since_more : (c : CpuId) (es log seen : List (Event M)) → AreOthers cpu_of_event c es → IsSince log seen c → IsSince (es ++ log) seen c
   since_more c es log seen h s = since_trans c (es ++ log) log seen (record { more = es; is = refl; others = h }) s
 
@@ -26,7 +26,7 @@ module _ {M : Type 0} where
   pub own_since : (c : CpuId) (log seen : List (Event M)) → IsSince log seen c → own_events cpu_of_event c log ≡ own_events cpu_of_event c seen
   own_since c log seen s = ap (own_events cpu_of_event c) s.is ∙ own_others cpu_of_event c s.more seen s.others
 
-  -- a log goes on from nothing
+  -- every log extends the empty one
   pub ends_nil : (log : List (Event M)) → EndsWith log []
   ends_nil log = record { more = log; is = sym (append-nil log) }
 
@@ -37,7 +37,8 @@ module _ {M : Type 0} where
   ends_all log = record { more = []; is = refl }
 
 module _ {E B : Type 0} (edited : E → B → B) (opening : LockId → Option B) where
-  -- what a Free by another CPU does to a lock that this CPU is inside: nothing, since it is not of that lock
+  -- what a Free by another CPU does to a lock that this CPU is inside: nothing, since it is not of
+  -- that lock
   inside_step : (c d : CpuId) (lock at : LockId) (mark : Mark E) (s t : ℕ) (log : List (Event (Mark E))) → IsLegalWords log
       → lock_phase d log ≡ Holding at s → lock_phase c log ≡ Holding lock t → same_cpu d c ≡ false
       → block_after edited opening lock (sections (Free d at mark ∷ log)) ≡ block_after edited opening lock (sections log)
@@ -50,7 +51,7 @@ module _ {E B : Type 0} (edited : E → B → B) (opening : LockId → Option B)
           let one : same_cpu d c ≡ true = eq-eqb d.0 c.0 (ap (λ x. x.0) (one_inside log legal d c lock s t here ci)) in cc)
       go false same = rw same refl
 
-  -- while a CPU is inside, nobody else edits the block
+  -- while a CPU is inside, no other CPU edits the block
   pub inside_keeps : (c : CpuId) (lock : LockId) (t : ℕ) (more log : List (Event (Mark E))) → IsLegalWords (more ++ log) → AreOthers cpu_of_event c more
       → lock_phase c log ≡ Holding lock t → block_after edited opening lock (sections (more ++ log)) ≡ block_after edited opening lock (sections log)
   inside_keeps c lock t [] log legal h ci = refl

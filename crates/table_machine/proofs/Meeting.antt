@@ -1,4 +1,4 @@
--- What a meeting asks of the table, and what it tells.
+-- What a meeting requests of the table, and what it returns.
 use Rattle.std.proofs.Common.{◌≡◌, ℕ, ◌<◌, inl, List, [], ◌∷◌, ◌++◌, length, refl, ap, sym, ◌∙◌, arith}
 use Rattle.{atomic_table.specs.{Seated.TableId, Table.{Me, step, Allows}}, event_log.specs.declared.{ids.{CpuId.CpuId, LockId.LockId}, events.Event.Event}}
 use Rattle.{event_log.specs.{History.Grows, WordsLog.{cpu_of_event, lock_phase}}, layer_traits.specs.{declared.edits.Mark.Mark, Protocols.Protocol.Rules}}
@@ -45,7 +45,7 @@ module _ {E B O : Type 0} (R : Rules E B O) where
     rw u_is (meets_allowed K R n start z.slots id (joined v.0 o) v.1 of.1),
   )
 
-  -- a load of it by a seat of this table, whatever that seat was told
+  -- a load of it by a seat of this table, whatever that seat received
   pub meets_here : (K : WordKind) (start : List (LockId × B)) (n slots id : ℕ) (u : Me (Home E B) (View E B)) → u.0.start ≡ start
       → Allows (TableInv K R n start) slots id u 0 (λ m. m) (Met R (step slots 0 0 0 none) u)
   meets_here K start n slots id u started = meets_allowed K R n start slots id u.0 u.1 started

@@ -36,12 +36,12 @@ module _ {E B : Type 0} where
     lent = λ c has. since_more c es log v.told (h c (inr has)) (f.lent c has);
   }
 
-  -- the CPUs of a view that has taken in all are its own
+  -- the CPUs for which a view acts after it has merged all
   pub owns_viewed : (start : List (LockId × B)) (cpus : List CpuId) (log : List (Event (Mark E))) (c : CpuId) → Owns c (caught_up start cpus log) → Has c cpus
   owns_viewed start cpus log c (inl has) = has
   owns_viewed start cpus log c (inr nothing) = absurd nothing
 
-  -- a view that was told what another has seen
+  -- a view that received what another has seen
   abbrev pub joined : View E B → View E B → View E B
   joined v w = record { start = v.start; cpus = v.cpus; seen = v.seen; told = w.seen; lent = w.cpus }
 
@@ -67,7 +67,8 @@ module _ {E B : Type 0} (n : ℕ) (views : List (View E B)) (log : List (Event (
   pub one_event : (e : Event (Mark E)) → Owns (cpu_of_event e) v → (c : CpuId) → s.seat_of c.0 ≢ id → AreOthers cpu_of_event c (e ∷ [])
   one_event e owns c away = (ne_eqb (cpu_of_event e).0 c.0 (λ same. away (ap s.seat_of (sym same) ∙ sym (s.apart id v (cpu_of_event e) here owns))), tt)
 
-  -- the seat has another view of the log with these events of its own CPUs, and owns no more than it did
+  -- the seat has another view of the log with these events of its CPUs, and owns no more than it
+  -- did
   pub sees_set : (es : List (Event (Mark E))) → ((c : CpuId) → s.seat_of c.0 ≢ id → AreOthers cpu_of_event c es) → (w : View E B) → Fits (es ++ log) w
       → ((c : CpuId) → Owns c w → Owns c v) → Sees n (set views id w) (es ++ log)
   sees_set es others w fits less = each_sees n (set views id w) (es ++ log) s.seat_of (all_set (FitsAt n (es ++ log) s.seat_of) views id w

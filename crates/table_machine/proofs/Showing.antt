@@ -9,14 +9,14 @@ use Rattle.table_machine.{specs.Rule.{ShowsLock, Shows}, proofs.Finding.{rank_sa
 use mathlib.Core.Option.{Option as Maybe, none, some}
 use lib.ListN.{get_elem?, length-map}
 
--- words of two locks, and two words of one lock, lie apart
+-- words of two locks, and two words of one lock, are at different positions
 pub locks_apart : (j k a b : ℕ) → j ≢ k → a ≤ CPUS → b ≤ CPUS → word_at j a ≢ word_at k b
 locks_apart j k a b other within within' same = other (omega arith)
 
 pub words_apart : (k a b : ℕ) → a ≢ b → word_at k a ≢ word_at k b
 words_apart k a b other same = other (omega arith)
 
--- two locks whose `next` lies at one place have one rank
+-- two locks whose `next` is at one position have one rank
 pub next_reads : (j k : ℕ) → word_at j 0 ≡ word_at k 0 → j ≡ k
 next_reads j k same = omega arith
 
@@ -49,11 +49,12 @@ map_both [] = refl
 map_both {E = E} (o ∷ rest) = ap (λ l. some (fresh_home {E = E} o.1) ∷ l) (map_both {E = E} rest)
 
 module _ (K : WordKind) (law : IsWordKind K) {E B : Type 0} (edited : E → B → B) (start : List (LockId × B)) where
-  -- a word of a lock lies within the table
+  -- a word of a lock is within the table
   pub within_table : (lock : LockId) (word : ℕ) → IsSome (opened start lock) → word ≤ CPUS → word_at (rank_of start lock) word < word_count (length start)
   within_table lock word there within = lies_within (rank_of start lock) (length start) word (rank_below start lock there) within
 
-  -- an event at one lock, with a write to one of its words: the words and slots of all other locks stay
+  -- an event at one lock, with a write to one of its words: the words and slots of all other locks
+  -- stay
   pub shows_step : (words : List ℕ) (homes : List (Maybe (Home E B))) (log : List (Event (Mark E))) → Shows K edited start words homes log
       → (e : Event (Mark E)) → MayFollow log e → (word x : ℕ) → word ≤ CPUS
       → (later : List (Maybe (Home E B))) → length later ≡ length start → ((j : ℕ) → j ≢ rank_of start (event_lock e) → get_elem? later j ≡ get_elem? homes j)

@@ -1,4 +1,4 @@
--- Each atomic step keeps the rule, and tells what it tells.
+-- Each atomic step keeps the invariant, and returns what its law says.
 use Rattle.std.proofs.Common.{length-set, ◌≡◌, ◌≢◌, ◌≤◌, ◌==◌, ℕ, ◌+◌, ◌<◌, ◌%◌, ◌^◌, ◌⊎◌, inl, inr, ⊎_elim, Bool, true, false, if◌then◌else◌, List, [], ◌∷◌}
 use Rattle.std.proofs.Common.{◌++◌, length, set, Some, IsSome, option_map, slice_index, refl, ap, sym, ◌∙◌, subst, arith, lt_of_lt_of_le, ne_eqb}
 use Rattle.atomic_table.specs.Table.{State, step, Act, keeps, takes, gives, stepped, Allows, Splits, Joins, Enters, Valid, carried_after, homes_after}
@@ -20,12 +20,13 @@ use lib.ListN.{get_elem?}
 use lib.Seq.{set-get_or}
 
 module _ (K : WordKind) {E B O : Type 0} (R : Rules E B O) (n : ℕ) (start : List (LockId × B)) where
-  -- the log goes on from what the seat of one CPU has seen
+  -- the log extends what the seat of one CPU has seen
   since : (s : State (Home E B) (View E B)) (kept : TableInv K R n start s) (id : ℕ) (cpu : CpuId) (seen : List (Event (Mark E)))
       → get_elem? s.views id ≡ some (mine start cpu seen) → IsSince kept.log seen cpu
   since s kept id cpu seen at = (kept.sees.fits id (mine start cpu seen) at).cpus cpu (inl refl)
 
-  -- an event of this CPU that may come, with a write to one word and slots that show it, keeps the rule
+  -- an event of this CPU that may occur, with a write to one word and slots that show it, keeps the
+  -- invariant
   after_event : IsWordKind K → (s : State (Home E B) (View E B)) (kept : TableInv K R n start s) (id : ℕ) (e : Event (Mark E)) (seen : List (Event (Mark E)))
       → get_elem? s.views id ≡ some (mine start (cpu_of_event e) seen) → MayCome (R.allowed (opened start)) kept.log e → (word x : ℕ) → word ≤ CPUS
       → (homes : List (Maybe (Home E B))) → length homes ≡ length start
@@ -93,7 +94,7 @@ module _ (K : WordKind) {E B O : Type 0} (R : Rules E B O) (n : ℕ) (start : Li
         record { lock = lock; exists = exists; word = refl; moves = after_move s kept id e seen at may; held = refl },
       )
 
-  -- a look of a CPU that waits: in the log it reads how often the lock was freed
+  -- a poll of a CPU that waits: in the log it reads how often the lock was freed
   module _ (law : IsWordKind K) (s : State (Home E B) (View E B)) (kept : TableInv K R n start s) (id : ℕ) (cpu : CpuId) (seen : List (Event (Mark E)))
       (lock : LockId) (ticket : ℕ) (exists : IsSome (opened start lock)) (at : get_elem? s.views id ≡ some (mine start cpu seen))
       (waits : lock_phase cpu seen ≡ Waiting lock ticket) where
@@ -106,7 +107,7 @@ module _ (K : WordKind) {E B O : Type 0} (R : Rules E B O) (n : ℕ) (start : Li
     look_may : MayCome (R.allowed (opened start)) kept.log look
     look_may = ((lock_phase_since cpu kept.log seen (since s kept id cpu seen at) ∙ waits, refl), tt)
 
-    -- what the step leaves, as the call of `load` asks it
+    -- what the step leaves, as the call of `load` requests it
     abbrev LookLeaves : Type 0
     LookLeaves = (w : View E B) × (a : Act (Home E B)) × Valid s.homes [] a × TableInv K R n start (stepped s place (slice_index s.words place) id [] w a)
         × LookedAtWord K R (mine start cpu seen, []) (slice_index s.words place) (w, carried_after [] a)
@@ -133,7 +134,7 @@ module _ (K : WordKind) {E B O : Type 0} (R : Rules E B O) (n : ℕ) (start : Li
       },
     )
 
-    -- the number found tells whether the look hits
+    -- the number found determines whether the poll succeeds
     look_ends : (b : Bool) → K.serves ticket (slice_index s.words place) ≡ b → (frees lock kept.log % 2 ^ 64 == ticket) ≡ b → LookLeaves
     look_ends false other misses =
         let old = kept.shows.each lock exists in
@@ -194,7 +195,7 @@ module _ (K : WordKind) {E B O : Type 0} (R : Rules E B O) (n : ℕ) (start : Li
       subst (λ s. TicketOf s (spot_of cpu (acts_of edit_of log))) inside (ticket_at edit_of log legal cpu) in
       has ∙ ap (λ n. n % 2 ^ 64) (served ∙ gives_acts edit_of lock log)
 
-  -- a CPU that is inside gives the lock on, by a store or by adding 1, whichever the words want
+  -- a CPU that is inside releases the lock, by a store or by adding 1, as the words require
   pub frees_allowed : IsWordKind K → (slots id : ℕ) (cpu : CpuId) (seen : List (Event (Mark E))) (lock : LockId) (ticket : ℕ) (edit : E) (block : B)
       (y : Home E B) → IsSome (opened start lock) → lock_phase cpu seen ≡ Holding lock ticket → y.block ≡ Some block → y.edit ≡ Some edit
       → option_map (R.edited edit) (block_after R.edited (opened start) lock (sections seen)) ≡ Some block
@@ -261,7 +262,7 @@ module _ (K : WordKind) {E B O : Type 0} (R : Rules E B O) (n : ℕ) (start : Li
       → Sees n s'.views kept.log → TableInv K R n start s'
   same_log s s' kept shows sees = record { few = kept.few; log = kept.log; legal = kept.legal; shows = shows; sees = sees; rest = kept.rest }
 
-  -- a load by which a seat takes in what it was told
+  -- a load by which a seat merges what it received
   pub meets_allowed : (slots id : ℕ) (v : View E B) (held : List (ℕ × Home E B)) → v.start ≡ start
       → Allows (TableInv K R n start) slots id (v, held) 0 (λ m. m) (Met R (step slots 0 0 0 none) (v, held))
   meets_allowed slots id v held started s kept count at fits =
@@ -275,7 +276,7 @@ module _ (K : WordKind) {E B O : Type 0} (R : Rules E B O) (n : ℕ) (start : Li
         record { view = refl; fits = kept.sees.fits id v at; legal = rw started kept.legal; held = refl },
       )
 
-  -- a new seat that acts for nobody
+  -- a new seat that acts for no CPU
   pub seat_enters : (slots : ℕ) (first : View E B) → first.start ≡ start
       → Enters (TableInv K R n start) slots 0 (λ m w. Entered (step slots 0 0 0 none) (first, []) m (w, []))
   seat_enters slots first started s kept count fits =

@@ -1,50 +1,53 @@
--- What the words of a lock are and do, as data: those of a ticket lock, and those of a lock with a grant word for each waiter.
+-- The words of a lock and their operations, as data: those of a ticket lock, and those of a lock
+-- with a grant word for each waiter.
 use Rattle.std.specs.Prelude.{◌≡◌, ◌≢◌, ℕ, ◌+◌, ◌%◌, ◌^◌, ◌<◌, ◌≤◌, ◌==◌, Bool, Option, Some, None, if◌then◌else◌}
 use Rattle.event_log.specs.{declared.ids.TheConstants.CPUS, Grants.WordFits}
 
--- The words of a lock are numbered: word 0 is `next`, from which tickets come. What they are worth is said by two true counts.
+-- The words of a lock are numbered: word 0 is `next`, which issues tickets. The words represent two
+-- exact counts.
 pub record WordKind : Type 1 where
   -- what word 1 holds at the start; every other word holds 0
   pub opens : ℕ
-  -- the word that a waiter with this ticket reads
+  -- the word that a waiter with this ticket polls
   pub looks_at : ℕ → ℕ
   -- whether this ticket is served by the number read
   pub serves : ℕ → ℕ → Bool
-  -- the word by which a holder with this ticket gives the lock on
+  -- the word that a holder with this ticket writes to release the lock
   pub gives_at : ℕ → ℕ
-  -- what it stores there; None where it adds 1
+  -- what it stores there; None if it adds 1
   pub stores : ℕ → Option ℕ
-  -- after so many spots taken, and given on so often, the words are these
+  -- after so many spots taken and so many releases, the words are these
   pub Fit : ℕ → ℕ → (ℕ → ℕ) → Type 0
 
 -- the words at the start
 abbrev pub first_words : ℕ → ℕ → ℕ
 first_words opens word = if word == 1 then opens else 0
 
--- what a word holds after a give
+-- what a word holds after a release
 abbrev pub given_on : Option ℕ → ℕ → ℕ
 given_on None was = (was + 1) % 2 ^ 64
 given_on (Some number) was = number
 
--- the words do what the counts say
+-- the words agree with the counts
 pub record IsWordKind (kind : WordKind) : Type 0 where
   -- a waiter reads one of the words that a lock has
   pub looks_within : (ticket : ℕ) → kind.looks_at ticket ≤ CPUS
   -- a holder writes one of them
   pub gives_within : (ticket : ℕ) → kind.gives_at ticket ≤ CPUS
-  -- the words at the start fit no spot taken and none given on
+  -- the words at the start agree with no spot taken and no release
   pub begins : (w : ℕ → ℕ) → ((i : ℕ) → i ≤ CPUS → w i ≡ first_words kind.opens i) → kind.Fit 0 0 w
-  -- words that are equal fit alike
+  -- words that are equal agree with the same counts
   pub same : (taken given : ℕ) (w v : ℕ → ℕ) → ((i : ℕ) → i ≤ CPUS → v i ≡ w i) → kind.Fit taken given w → kind.Fit taken given v
   -- word 0 is the next ticket
   pub next_is : (taken given : ℕ) (w : ℕ → ℕ) → kind.Fit taken given w → w 0 ≡ taken % 2 ^ 64
-  -- after word 0 alone moved on by 1, one spot more is taken
+  -- after word 0, and no other, grew by 1, one spot more is taken
   pub took : (taken given : ℕ) (w v : ℕ → ℕ) → kind.Fit taken given w → v 0 ≡ (w 0 + 1) % 2 ^ 64
       → ((i : ℕ) → i ≤ CPUS → i ≢ 0 → v i ≡ w i) → kind.Fit (taken + 1) given v
-  -- the word of a waiter fewer than CPUS spots behind serves its ticket exactly if its spot is next
+  -- the word of a waiter fewer than CPUS spots after the served one serves its ticket exactly if
+  -- its spot is next
   pub hits : (taken given : ℕ) (w : ℕ → ℕ) → kind.Fit taken given w → (ticket spot : ℕ) → given ≤ spot → spot < given + CPUS → ticket ≡ spot % 2 ^ 64
       → kind.serves ticket (w (kind.looks_at ticket)) ≡ (given == spot)
-  -- after the write of the holder alone, the lock is given on once more
+  -- after only the holder's write, the lock is released once more
   pub gave : (taken given : ℕ) (w v : ℕ → ℕ) → kind.Fit taken given w → (ticket : ℕ) → ticket ≡ given % 2 ^ 64
       → v (kind.gives_at ticket) ≡ given_on (kind.stores ticket) (w (kind.gives_at ticket))
       → ((i : ℕ) → i ≤ CPUS → i ≢ kind.gives_at ticket → v i ≡ w i) → kind.Fit taken (given + 1) v
@@ -60,7 +63,8 @@ ticket_words = record {
   Fit = λ taken given w. (w 0 ≡ taken % 2 ^ 64) × (w 1 ≡ given % 2 ^ 64);
 }
 
--- grant words behind `next`: that of ticket n is at n modulo CPUS among them, and holds n + 1 once n is served
+-- grant words after `next`: that of ticket n is at n modulo CPUS among them, and holds n + 1 once n
+-- is served
 abbrev pub grant_words : WordKind
 grant_words = record {
   opens = 1;

@@ -1,3 +1,4 @@
--- Lemmas that clauses of impls cite. They are proved here: no reader of a contract needs to believe them.
+-- Lemmas that clauses of impls cite. They are proved here: no reader of a contract needs to believe
+-- them.
 pub mod KindLaws
 pub mod Stored

@@ -1,4 +1,4 @@
--- What each atomic step tells the seat that makes it.
+-- What the seat learns from each of its atomic steps.
 use Rattle.std.specs.Prelude.{◌≡◌, ℕ, true, false, [], ◌∷◌, ◌++◌, ◌⊎◌, IsSome, Some}
 use Rattle.{atomic_table.specs.Table.{Step, Me}, event_log.specs.declared.{ids.LockId.LockId, events.Event.{Event, TheVariants.{Draw, Look, Free}}}}
 use Rattle.event_log.specs.{History.{IsLawful, Adds}, WordsLog.{cpu_of_event, lock_phase, Waiting, Holding}, Sections.block_after}
@@ -6,7 +6,7 @@ use Rattle.layer_traits.specs.{declared.edits.Mark.Mark, Protocols.{Protocol.Rul
 use Rattle.table_machine.specs.{declared.views.{View.View, Home.Home}, Kinds.WordKind, Layout.{rank_of, word_at}, Views.{caught_up, mine, owner, IsThisCpu}}
 use Rattle.table_machine.specs.Views.{Fits}
 
--- events of others, then this one; the whole is legal
+-- environment events, then this one; the whole is legal
 pub record Moves {E B O : Type 0} (rules : Rules E B O) (v w : View E B) (e : Event (Mark E)) : Type 0 where
   pub view : w ≡ mine v.start (owner v.cpus) w.seen
   pub adds : Adds (IsThisCpu (owner v.cpus)) cpu_of_event e v.seen w.seen
@@ -21,14 +21,14 @@ pub record Drew {E B O : Type 0} (rules : Rules E B O) (at : Step (Home E B)) (v
     pub moves : Moves rules v.0 w.0 (Draw (owner v.0.cpus) lock found)
     pub held : w.1 ≡ v.1
 
--- a look by whose number the ticket is not served
+-- a poll whose number does not serve the ticket
 pub record MissesTicket (kind : WordKind) {E B : Type 0} (lock : LockId) (ticket : ℕ) (v : Me (Home E B) (View E B)) (found : ℕ)
     (w : Me (Home E B) (View E B)) : Type 0 where
   pub other : kind.serves ticket found ≡ false
   pub waits : lock_phase (owner v.0.cpus) w.0.seen ≡ Waiting lock ticket
   pub held : w.1 ≡ v.1
 
--- a look by whose number the ticket is served: the block that it took is the fold of the lock's sections
+-- a poll whose number serves the ticket: the block that it took is the fold of the lock's sections
 pub record Hits (kind : WordKind) {E B O : Type 0} (rules : Rules E B O) (lock : LockId) (ticket : ℕ) (v : Me (Home E B) (View E B)) (found : ℕ)
     (w : Me (Home E B) (View E B)) : Type 0 where
   pub same : kind.serves ticket found ≡ true
@@ -39,8 +39,8 @@ pub record Hits (kind : WordKind) {E B O : Type 0} (rules : Rules E B O) (lock :
   pub is : home.block ≡ Some block
   pub folds : block_after rules.edited (opened v.0.start) lock (sections w.0.seen) ≡ Some block
 
--- a Look for the ticket that this CPU waits with: in the log it reads how often the lock was freed. The block is taken exactly where
--- the ticket is served by the number that was found.
+-- a Look for the ticket with which this CPU waits: in the log it reads how often the lock was
+-- freed. The block is taken exactly if the number that was found serves the ticket.
 pub record LookedAtWord (kind : WordKind) {E B O : Type 0} (rules : Rules E B O) (v : Me (Home E B) (View E B)) (found : ℕ)
     (w : Me (Home E B) (View E B)) : Type 0 where
   pub lock : LockId
@@ -50,7 +50,7 @@ pub record LookedAtWord (kind : WordKind) {E B O : Type 0} (rules : Rules E B O)
   pub moves : Moves rules v.0 w.0 (Look (owner v.0.cpus) lock ticket read)
   pub finds : MissesTicket kind lock ticket v found w ⊎ Hits kind rules lock ticket v found w
 
--- a Free of the lock that this CPU is inside, with the edit that lies in its slot
+-- a Free of the lock that this CPU is inside, with the edit that is in its slot
 pub record Freed {E B O : Type 0} (rules : Rules E B O) (v w : Me (Home E B) (View E B)) : Type 0 where
   pub lock : LockId
   pub ticket : ℕ
@@ -63,7 +63,7 @@ pub record Freed {E B O : Type 0} (rules : Rules E B O) (v w : Me (Home E B) (Vi
   pub moves : Moves rules v.0 w.0 (Free (owner v.0.cpus) lock (mark_of edit))
   pub held : w.1 ≡ []
 
--- what was told is taken in: the view is now the whole log, which goes on from both
+-- what was received is merged: the view becomes the whole log, which extends both
 pub record Met {E B O : Type 0} (rules : Rules E B O) (at : Step (Home E B)) (v : Me (Home E B) (View E B)) (found : ℕ) (w : Me (Home E B) (View E B)) : Type 0
   where
     pub view : w.0 ≡ caught_up v.0.start (v.0.lent ++ v.0.cpus) w.0.seen
@@ -71,6 +71,6 @@ pub record Met {E B O : Type 0} (rules : Rules E B O) (at : Step (Home E B)) (v 
     pub legal : IsLawful (MayCome (rules.allowed (opened v.0.start))) w.0.seen
     pub held : w.1 ≡ v.1
 
--- a new seat has seen nothing and acts for no CPU
+-- a fresh seat has seen nothing and acts for no CPU
 abbrev pub Entered : {E B : Type 0} → Step (Home E B) → Me (Home E B) (View E B) → ℕ → Me (Home E B) (View E B) → Type 0
 Entered at v found w = w ≡ (caught_up v.0.start [] [], [])

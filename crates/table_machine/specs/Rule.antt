@@ -7,7 +7,7 @@ use Rattle.table_machine.specs.{declared.views.Home.Home, Kinds.WordKind, Layout
 use mathlib.Core.Option.{Option as Maybe, none, some}
 use lib.ListN.{get_elem?}
 
--- the block in a slot; none while the slot is out with a seat
+-- the block in a slot; none while a seat has the slot
 abbrev pub home_block : {E B : Type 0} → Maybe (Home E B) → Option B
 home_block none = None
 home_block (some home) = home.block
@@ -16,7 +16,8 @@ home_block (some home) = home.block
 abbrev pub fresh_home : {E B : Type 0} → B → Home E B
 fresh_home block = record { block = Some block; edit = None }
 
--- the words and the slot of one lock are what the log leaves of them: the words fit the two counts
+-- the words and the slot of one lock are what the log leaves of them: the words agree with the two
+-- counts
 pub record ShowsLock (kind : WordKind) {E B : Type 0} (edited : E → B → B) (start : List (LockId × B)) (words : List ℕ) (homes : List (Maybe (Home E B)))
     (log : List (Event (Mark E))) (lock : LockId) : Type 0 where
   pub home : Maybe (Home E B)
@@ -31,7 +32,8 @@ pub record Shows (kind : WordKind) {E B : Type 0} (edited : E → B → B) (star
   pub home_length : length homes ≡ length start
   pub each : (lock : LockId) → IsSome (opened start lock) → ShowsLock kind edited start words homes log lock
 
--- there is one legal log of the CPUs of this table: the words and slots are its replay, the views are fronts of it
+-- the invariant of the table: there is one legal log of its CPUs; the words and slots are its
+-- replay, the views are prefixes of it
 pub record TableInv (kind : WordKind) {E B O : Type 0} (rules : Rules E B O) (cpu_count : ℕ) (start : List (LockId × B))
     (s : State (Home E B) (View E B)) : Type 0 where
   pub few : cpu_count ≤ CPUS

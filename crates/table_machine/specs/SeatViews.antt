@@ -1,24 +1,25 @@
--- What a caller knows of a table, of a key and of a seat, and what `close` says.
+-- What a caller knows of a table, of a key and of a seat, and what `close` guarantees.
 use Rattle.std.specs.Prelude.{◌≡◌, ℕ, zero, suc, ◌<◌, ◌≤◌, List, [], ◌∷◌, ◌++◌, length, slice_get, Some}
 use Rattle.{atomic_table.specs.{Seated.TableId, Table.Me}, event_log.specs.{declared.{ids.{CpuId.CpuId, LockId.LockId}, events.Event.Event}, History.IsLawful}}
 use Rattle.event_log.specs.{History.own_events, WordsLog.{cpu_of_event, LockPhase, Idle, Waiting, Holding, lock_phase}, Sections.block_after}
 use Rattle.layer_traits.specs.{declared.edits.Mark.Mark, Protocols.{Protocol.Rules, WordsProtocol.{MayCome, sections}, OneLock.opened}}
 use Rattle.table_machine.specs.{declared.views.{Home.Home, View.View}, Layout.rank_of, Views.{caught_up, mine, Has, EndsWith, IsSince}}
 
--- a table to its callers: which one it is, the blocks that it opened with, and its number of CPUs
+-- a table to its callers: its identity, the blocks that it opened with, and its number of CPUs
 pub record TableView (B : Type 0) : Type 0 where
   pub table : TableId
   pub start : List (LockId × B)
   pub cpus : ℕ
 
--- a key or a seat to its callers: its CPU, its table, the opening blocks, and the log that it has seen, newest first
+-- a key or a seat to its callers: its CPU, its table, the opening blocks, and the log that it has
+-- seen, newest first
 pub record SeatView (E B : Type 0) : Type 0 where
   pub cpu : CpuId
   pub table : TableId
   pub start : List (LockId × B)
   pub seen : List (Event (Mark E))
 
--- which table it is, as numbers
+-- the identity of a table, as numbers
 abbrev pub site_of : TableId → List ℕ
 site_of table = table.words ∷ table.slots ∷ table.views_name ∷ table.atom ∷ table.block ∷ table.offset ∷ table.slot_names
 
@@ -47,8 +48,8 @@ Remembers ticket Idle = Unit {0}
 Remembers ticket (Waiting lock own) = ticket ≡ own
 Remembers ticket (Holding lock own) = ticket ≡ own
 
--- the token of a key: it sees the log for this CPU, carries the slot of the lock that the CPU is inside, and what it has seen is legal;
--- and the key remembers the CPU's ticket
+-- The token of a key. It sees the log for this CPU, carries the slot of the lock that the CPU is
+-- inside, and what it has seen is legal. The key remembers the CPU's ticket.
 pub record IsKey {E B O : Type 0} (rules : Rules E B O) (cpu : CpuId) (ticket : ℕ) (me : Me (Home E B) (View E B)) : Type 0 where
   pub view : me.0 ≡ mine me.0.start cpu me.0.seen
   pub held : Carries me.0.start (lock_phase cpu me.0.seen) me.1
@@ -60,7 +61,8 @@ pub record IsOver {E B : Type 0} (table_view : TableView B) (seat_view : SeatVie
   pub table : seat_view.table ≡ table_view.table
   pub outside : lock_phase seat_view.cpu seat_view.seen ≡ Idle
 
--- a closing seat has taken in these seat views: it acts for their CPUs, which have no ticket outstanding, and goes on from what each has seen
+-- a closing seat has merged these seat views: it acts for their CPUs, which have no ticket
+-- outstanding, and extends what each has seen
 pub record Gathered {E B : Type 0} (start : List (LockId × B)) (v : View E B) (seat_views : List (SeatView E B)) : Type 0 where
   pub view : v ≡ caught_up start v.cpus v.seen
   pub keys : (i : ℕ) (d : SeatView E B) → slice_get seat_views i ≡ Some d → Has d.cpu v.cpus × IsSince v.seen d.seen d.cpu
@@ -70,12 +72,13 @@ pub record Gathered {E B : Type 0} (start : List (LockId × B)) (v : View E B) (
 abbrev pub Covers : {E B : Type 0} → ℕ → List (SeatView E B) → Type 0
 Covers cpus seat_views = (c : CpuId) → c.0 < cpus → (i : ℕ) × (seat_view : SeatView _ _) × (slice_get seat_views i ≡ Some seat_view) × (seat_view.cpu ≡ c)
 
--- the log begins with all that this seat view has seen, and holds of its CPU just that
+-- what this seat view has seen is a prefix of the log, which has no further event of its CPU
 pub record IsIn {E B : Type 0} (log : List (Event (Mark E))) (seat_view : SeatView E B) : Type 0 where
   pub ends : EndsWith log seat_view.seen
   pub whole : own_events cpu_of_event seat_view.cpu log ≡ own_events cpu_of_event seat_view.cpu seat_view.seen
 
--- there is one legal log in which all seat views stand whole, with no other CPU's events; each block is the fold of its lock's sections
+-- There is one legal log of which each seat view's log is a prefix, with no further event of any of
+-- their CPUs. Each block is the fold of its lock's sections.
 pub record ClosesTable {E B O : Type 0} (rules : Rules E B O) (table_view : TableView B) (seat_views : List (SeatView E B))
     (blocks : List (LockId × B)) : Type 0 where
   pub log : List (Event (Mark E))

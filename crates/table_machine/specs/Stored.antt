@@ -1,5 +1,5 @@
--- An example, for tests alone: the words of a ticket lock that is given on by a store. The holder alone writes `serving`, so it need not add: it
--- stores its ticket plus 1.
+-- An example, only for tests: the words of a ticket lock that is released by a store. Only the
+-- holder writes `serving`, so it need not add: it stores its ticket plus 1.
 use Rattle.std.specs.Prelude.{◌≡◌, ◌+◌, ◌%◌, ◌^◌, ◌==◌, Some}
 use Rattle.table_machine.specs.Kinds.{WordKind}
 

@@ -5,7 +5,7 @@ use Rattle.{layer_traits.specs.declared.edits.Mark.Mark, table_machine.specs.dec
 use mathlib.Core.Option.{some}
 use lib.ListN.{get_elem?}
 
--- a view that has taken in all that it was told
+-- a view that has merged all that it received
 abbrev pub caught_up : {E B : Type 0} → List (LockId × B) → List CpuId → List (Event (Mark E)) → View E B
 caught_up start cpus seen = record { start = start; cpus = cpus; seen = seen; told = []; lent = [] }
 
@@ -18,7 +18,7 @@ abbrev pub cpus_from : ℕ → ℕ → List CpuId
 cpus_from first zero = []
 cpus_from first (suc count) = record { 0 = first } ∷ cpus_from (first + 1) count
 
--- the CPU stands in the list
+-- the CPU is in the list
 abbrev pub Has : CpuId → List CpuId → Type 0
 Has cpu [] = ⊥
 Has cpu (c ∷ rest) = (cpu ≡ c) ⊎ Has cpu rest
@@ -28,33 +28,33 @@ abbrev pub owner : List CpuId → CpuId
 owner [] = record { 0 = 0 }
 owner (c ∷ rest) = c
 
--- one CPU alone
+-- exactly this CPU
 abbrev pub IsThisCpu : CpuId → CpuId → Type 0
 IsThisCpu cpu c = c ≡ cpu
 
--- the log begins with what was seen: newest first, it ends with it
+-- what was seen is a prefix of the log: newest first, the log ends with it
 pub record EndsWith {E : Type 0} (log seen : List E) : Type 0 where
   pub more : List E
   pub is : log ≡ more ++ seen
 
--- the log goes on from what was seen, without an event of this CPU
+-- the log extends what was seen, without an event of this CPU
 pub record IsSince {M : Type 0} (log seen : List (Event M)) (cpu : CpuId) : Type 0 where
   pub more : List (Event M)
   pub is : log ≡ more ++ seen
   pub others : AreOthers cpu_of_event cpu more
 
--- the CPU is one of this view's own, or of those that were lent to it
+-- the CPU is one for which this view acts, or one that was lent to it
 abbrev pub Owns : {E B : Type 0} → CpuId → View E B → Type 0
 Owns cpu v = Has cpu v.cpus ⊎ Has cpu v.lent
 
--- the view is a front of the log, and has all events of its CPUs
+-- the view is a prefix of the log, and has all events of its CPUs
 pub record Fits {E B : Type 0} (log : List (Event (Mark E))) (v : View E B) : Type 0 where
   pub front : EndsWith log v.seen
   pub told : EndsWith log v.told
   pub cpus : (c : CpuId) → Has c v.cpus → IsSince log v.seen c
   pub lent : (c : CpuId) → Has c v.lent → IsSince log v.told c
 
--- all views are fronts of the log; a CPU is of one view at most, and below the number of CPUs
+-- all views are prefixes of the log; a CPU is of one view at most, and below the number of CPUs
 pub record Sees {E B : Type 0} (cpu_count : ℕ) (views : List (View E B)) (log : List (Event (Mark E))) : Type 0 where
   pub fits : (i : ℕ) (v : View E B) → get_elem? views i ≡ some v → Fits log v
   pub seat_of : ℕ → ℕ

@@ -1,4 +1,4 @@
-//! How a table is closed. It takes no memory and does not wait.
+//! How a table is closed. The function neither allocates nor blocks.
 
 ghost use Rattle.std.specs.Prelude.{◌≡◌, ℕ, ◌<◌, ◌≤◌, [], ◌∷◌, ◌++◌, Some, IsSome, All, List, length, vec_capacity};
 ghost use Rattle.std.specs.Mem.Slots.{slots_items, slots_len, IsFull};
@@ -19,10 +19,11 @@ use layer_traits::SplitEdit;
 use std::alloc::Global;
 
 impl<E: SplitEdit, K: TableWords> Shared<E, K> {
-    /// Closes the table and gives each block as the sections left it, in the order of `open`. It
-    /// takes the keys of all CPUs, none with a ticket outstanding. There is one legal words log that
-    /// begins with the log of each key and holds of each CPU just the events which its key has
-    /// seen; each block is the fold of its lock's sections in that log. Takes no memory.
+    /// Closes the table and returns each block as the sections left it, in the order of `open`. It
+    /// takes the keys of all CPUs, none with a ticket outstanding. There is one legal words log, of
+    /// which the log of each key is a prefix. It contains exactly those events of each CPU that the
+    /// CPU's key has seen. Each block is the fold of its lock's sections in that log. It allocates
+    /// nothing.
     ///
     /// Requires: there is one key for each CPU, each is one of this table, and none is at a lock.
     pub fn close(self, keys: Vec<Key<E>>) -> Vec<(LockId, E::Block)>
@@ -40,7 +41,7 @@ impl<E: SplitEdit, K: TableWords> Shared<E, K> {
         returned(table.close_with(seat), locks, blocks)
     }
 
-    // A new seat that has taken in all keys.
+    // A new seat that has merged all keys.
     fn gathered(&self, keys: Vec<Key<E>>) -> Token<E>
         requires { All (IsOver self.now) keys.items }
         ensures table { result.table_id ≡ self.now.table }
@@ -53,7 +54,7 @@ impl<E: SplitEdit, K: TableWords> Shared<E, K> {
         seat
     }
 
-    // Takes in one key.
+    // Merges one key into the seat.
     fn absorb(&self, seat: &mut Token<E>, key: Key<E>)
         requires table { seat.old.table_id ≡ self.now.table }
         requires start { seat.old.me.0.start ≡ self.now.start }
@@ -74,7 +75,7 @@ impl<E: SplitEdit, K: TableWords> Shared<E, K> {
     }
 }
 
-// The blocks that lie in the slots, with their locks.
+// The blocks in the slots, with their locks.
 fn returned<E: SplitEdit>(
     mut closed: Closed<Slot<E, E::Block>, Global>,
     locks: Vec<LockId>,

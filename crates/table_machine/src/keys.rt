@@ -1,4 +1,4 @@
-//! The key of a CPU: what lies in it is what the CPU has seen. No call takes memory or waits.
+//! The key of a CPU, which holds what the CPU has seen. No function allocates or blocks.
 
 ghost use Rattle.std.specs.Prelude.{◌≡◌, ℕ, List, [], IsSome, Some, MatchOption, option_map};
 ghost use Rattle.event_log.specs.{declared.events.Event.TheVariants.{Draw, Look, Free}, History.{Adds, Grows, IsLawful}, WordsLog.{cpu_of_event, lock_phase}};
@@ -14,16 +14,16 @@ use event_log::{CpuId, LockId};
 use layer_traits::{Mark, SplitEdit};
 use std::marker::Model;
 
-/// The right to act for one CPU at one table, and all that the CPU has seen there. It may go from
-/// thread to thread; there is one for each CPU of the table.
+/// The right to act for one CPU at one table, and all that the CPU has seen there. It may be moved
+/// between threads; there is one for each CPU of the table.
 ///
-/// To a contract it is a seat view: its CPU, its table, the blocks that the table opened with, and the
-/// words log that was seen, newest first.
+/// In a contract it is a seat view: its CPU, its table, the blocks that the table opened with, and
+/// the words log that was seen, newest first.
 #[derive(Drop)]
 pub struct Key<E: SplitEdit> {
     pub(crate) token: Token<E>,
     pub(crate) cpu: CpuId,
-    // The ticket that the CPU drew last: it gives the lock on by the word that this tells.
+    // The ticket that the CPU drew last; it determines the word by which the CPU releases the lock.
     pub(crate) ticket: u64,
 }
 
@@ -52,7 +52,7 @@ impl<E: SplitEdit> Key<E> {
         let _token = &self.token;
     }
 
-    // Adds 1 to `next` and gives the old value.
+    // Adds 1 to `next` and returns the old value.
     pub(crate) fn draw<K: TableWords>(&mut self, shared: &Shared<E, K>, lock: LockId) -> u64
         requires of { IsOf shared.now self.old }
         requires lock { IsSome (opened self.old.start lock) }
@@ -68,7 +68,7 @@ impl<E: SplitEdit> Key<E> {
         ticket
     }
 
-    // Reads the ticket's word, and takes the block where the ticket is served.
+    // Reads the ticket's word, and takes the block if the ticket is served.
     pub(crate) fn look<K: TableWords>(
         &mut self,
         shared: &Shared<E, K>,
@@ -97,7 +97,7 @@ impl<E: SplitEdit> Key<E> {
         slot.take()
     }
 
-    // Puts the block into its slot, and gives the lock on by the word of the CPU's ticket.
+    // Puts the block into its slot, and releases the lock by the word of the CPU's ticket.
     pub(crate) fn free<K: TableWords>(
         &mut self,
         shared: &Shared<E, K>,
@@ -137,7 +137,7 @@ impl<E: SplitEdit> Key<E> {
         shared.table.shared.split_seat::<Copies>(&mut self.token)
     }
 
-    // Takes in what the token has seen.
+    // Merges what the token has seen.
     pub(crate) fn take_in<K: TableWords>(&mut self, shared: &Shared<E, K>, notes: Token<E>)
         requires of { IsOf shared.now self.old }
         requires table { notes.table_id ≡ self.old.table }

@@ -1,7 +1,7 @@
-//! Locks over shared atomic words: a table that threads share, and a seat at it for each CPU. One
-//! table serves both kinds of words, those of ticket locks and those with a grant word for each
-//! waiter. A seat meets the very law of words that the owned machine meets. No call waits for another
-//! thread, and no lock of the operating system is used.
+//! Locks over shared atomic words: a table that threads share, and a seat (a per-CPU handle) at it
+//! for each CPU. One implementation serves both kinds of words, those of ticket locks and those
+//! with a grant word for each waiter. A seat satisfies the same law of words as the owned machine.
+//! No function waits for another thread, and no lock of the operating system is used.
 //!
 //! A table of two CPUs, and one section of the second of them at its seat:
 //!

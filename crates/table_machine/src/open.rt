@@ -1,4 +1,4 @@
-//! How a table is made, and its keys dealt. `open` takes memory. It does not wait.
+//! How a table is made, and its keys are dealt. `open` allocates. It does not block.
 
 ghost use Rattle.std.specs.Prelude.{◌≡◌, ◌+◌, ◌-◌, ◌<◌, ◌≤◌, ◌^◌, [], length, map, replicate, vec_len, vec_capacity, IfOk};
 ghost use Rattle.{event_log.specs.declared.ids.{LockId.LockId, TheConstants.{CPUS, LOCKS}}, layer_traits.specs.Protocols.OneLock.AreDistinct};
@@ -26,13 +26,12 @@ struct Layout<E: SplitEdit> {
 }
 
 impl<E: SplitEdit, K: TableWords> Shared<E, K> {
-    /// A table with these locks and blocks, in which no lock stands twice and which may be none, and
-    /// one key for each CPU, from CPU 0 up. `cpus` is at most `CPUS`. Nothing has happened yet: the
-    /// log of each key is empty.
+    /// A table with these locks and blocks, of which there may be none, and one key for each CPU,
+    /// from CPU 0 upwards. No event has occurred yet: the log of each key is empty.
     ///
-    /// Requires: no lock stands twice, and there are at most `CPUS` CPUs.
+    /// Requires: no lock occurs twice, and there are at most `CPUS` CPUs.
     ///
-    /// Errors: `NoMemory` where memory was refused; the blocks are dropped and nothing was made.
+    /// Errors: `NoMemory` if an allocation failed; the blocks are dropped and nothing was made.
     pub fn open(
         alloc: Global,
         blocks: Vec<(LockId, E::Block)>,
@@ -116,7 +115,7 @@ fn opened_table<E: SplitEdit, K: TableWords>(
     }
 }
 
-// The table with the row of ranks beside it, and the room for the blocks that `close` gives.
+// The table with the row of ranks beside it, and the room for the blocks that `close` returns.
 fn furnished<E: SplitEdit, K: TableWords>(
     made: (Whole<E, K>, Token<E>),
     ranks: Vec<usize>,
@@ -168,7 +167,7 @@ fn laid_out<E: SplitEdit, K: TableWords>(
     })
 }
 
-// The words of so many locks, as they are at the start.
+// The words of so many locks at the start.
 fn first_words<K: TableWords>(alloc: Global, locks: usize) -> Result<Vec<u64>, AllocError>
     ensures words { IfOk result (λ v. AreFirst K.kind.opens locks locks v.items) }
     ensures small { IfOk result (λ v. word_count locks < 2 ^ 64) }
@@ -192,7 +191,7 @@ fn zero_words(alloc: Global, locks: usize) -> Result<Vec<u64>, AllocError>
     Ok(words)
 }
 
-// A row that tells the rank of each lock.
+// A row that gives the rank of each lock.
 fn ranks_of<B>(alloc: Global, blocks: &[(LockId, B)]) -> Result<Vec<usize>, AllocError>
     ensures row { IfOk result (λ v. length v.items ≡ LOCKS) }
     ensures ranks { IfOk result (λ v. AreRanks v.items blocks.now) }

@@ -1,4 +1,4 @@
-//! What each atomic step tells its caller.
+//! What the caller learns from each atomic step.
 ghost use Rattle.table_machine.specs.Plays.{Drew, LookedAtWord, Freed, Met, Entered};
 
 use crate::table_words::TableWords;
@@ -16,7 +16,7 @@ impl<E: SplitEdit> Play<Slot<E, E::Block>, View<E, E::Block>> for Draws<E> {
     ghost then = { Drew E.rules };
 }
 
-/// A load of the word at which a waiter looks.
+/// A load of the word that a waiter polls.
 pub(crate) struct Looks<E, K> {
     edit: PhantomData<E>,
     words: PhantomData<K>,
@@ -26,7 +26,7 @@ impl<E: SplitEdit, K: TableWords> Play<Slot<E, E::Block>, View<E, E::Block>> for
     ghost then = { λ _ v found w. LookedAtWord K.kind E.rules v found w };
 }
 
-/// A write of the word by which a lock is given on: a fetch-and-add or a store.
+/// A write of the word by which a lock is released: a fetch-and-add or a store.
 pub(crate) struct Frees<E> {
     edit: PhantomData<E>,
 }
@@ -35,7 +35,7 @@ impl<E: SplitEdit> Play<Slot<E, E::Block>, View<E, E::Block>> for Frees<E> {
     ghost then = { λ _ v _ w. Freed E.rules v w };
 }
 
-/// A load that is no event: the seat takes in what it was told.
+/// A load that is no event: the seat merges what it received.
 pub(crate) struct Meets<E> {
     edit: PhantomData<E>,
 }
@@ -53,7 +53,7 @@ impl<E: SplitEdit> Play<Slot<E, E::Block>, View<E, E::Block>> for Enters<E> {
     ghost then = { Entered };
 }
 
-/// The first CPU of a seat goes to a seat of its own.
+/// The first CPU of a seat moves to a new seat.
 pub(crate) struct Deals;
 
 impl<E, B> Split<View<E, B>> for Deals {

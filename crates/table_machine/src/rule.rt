@@ -8,7 +8,7 @@ use std::alloc::Global;
 use std::marker::PhantomData;
 use std::snapshot::Snapshot;
 
-/// What the table is told once, when it is made.
+/// What the table is given once, when it is made.
 #[derive(Drop)]
 pub(crate) struct Opening<B> {
     /// The number of CPUs.
@@ -17,7 +17,8 @@ pub(crate) struct Opening<B> {
     pub(crate) blocks: Snapshot<Vec<(LockId, B)>>,
 }
 
-/// There is one legal log: the words and the blocks are its replay, and each view is a front of it.
+/// The invariant: there is one legal log, the words and the blocks are its replay, and each view is
+/// a prefix of it.
 pub(crate) struct LogRule<E, K> {
     edit: PhantomData<E>,
     words: PhantomData<K>,

@@ -1,4 +1,4 @@
-//! The seat of a CPU at a shared table. No call takes memory or waits.
+//! The seat (per-CPU handle) of a CPU at a shared table. No function allocates or blocks.
 
 ghost use Rattle.std.specs.Prelude.{◌≡◌, List, IsSome, Some, MatchOption, option_map};
 ghost use Rattle.event_log.specs.{declared.ids.CpuId.CpuId, History.{Grows, IsLawful}, WordsLog.cpu_of_event};
@@ -11,16 +11,17 @@ use event_log::{CpuId, LockId};
 use layer_traits::{Mark, SplitEdit, UsesGrantWords, Words};
 use std::marker::Model;
 
-/// A CPU at a table: it may draw, look and free there. Each call lengthens the log that the seat
-/// has seen by what other CPUs did, and then by the call's own event; its answer is the one that a
-/// single thread would get at that point of the log.
+/// A CPU's handle of a table, through which it may `draw`, `look` and `free`. Each call extends the
+/// log that the seat has seen by events of other CPUs, then by the call's event. Its result is the
+/// one that a single thread would get at that point of the log.
 #[derive(Drop)]
 pub struct Seat<'a, E: SplitEdit, K: TableWords = TicketWords> {
     key: Key<E>,
     shared: &'a Shared<E, K>,
 }
 
-/// A CPU at a table of locks with grant words: it may take, peek and give there.
+/// A CPU's handle of a table of locks with grant words, through which it may `take`, `peek` and
+/// `give`.
 pub type GrantSeat<'a, E> = Seat<'a, E, WaiterWords>;
 
 impl<'a, E: SplitEdit, K: TableWords> Model for Seat<'a, E, K> {
@@ -34,7 +35,7 @@ impl<'a, E: SplitEdit, K: TableWords> Model for Seat<'a, E, K> {
 }
 
 impl<E: SplitEdit, K: TableWords> Shared<E, K> {
-    /// Takes the seat of the key's CPU. The key is one of this table. Takes no memory.
+    /// Takes the seat of the key's CPU. It allocates nothing.
     ///
     /// Requires: the key is one of this table.
     pub fn seat(&self, key: Key<E>) -> Seat<'_, E, K>
@@ -48,15 +49,15 @@ impl<E: SplitEdit, K: TableWords> Shared<E, K> {
 }
 
 impl<'a, E: SplitEdit, K: TableWords> Seat<'a, E, K> {
-    /// The table at which the seat stands. The key that the seat gives back may be seated there
-    /// again, whatever was done through the seat meanwhile.
+    /// The seat's table. The key that the seat returns may be used for a seat there again, whatever
+    /// was done through the seat in between.
     pub fn table(&self) -> &'a Shared<E, K>
         ensures { IsOf result.now self.now }
     {
         self.shared
     }
 
-    /// Leaves the seat. The key keeps all that the seat has seen. Takes no memory.
+    /// Leaves the seat. The key keeps all that the seat has seen. It allocates nothing.
     pub fn back(self) -> Key<E>
         ensures { result ≡ self.entry }
     {
@@ -98,7 +99,7 @@ impl<'a, E: SplitEdit, K: TableWords> Words for Seat<'a, E, K> {
         self.key.look(self.shared, lock, ticket)
     }
 
-    // Other threads free the lock meanwhile, so each look loads its word again.
+    // Other threads may free the lock in between, so each poll loads its word again.
     fn spin(&mut self, _cpu: CpuId, _lock: LockId, _ticket: u64, _steps: &[CpuId]) -> usize {
         0
     }
@@ -112,9 +113,9 @@ impl<'a, E: SplitEdit, K: TableWords> Words for Seat<'a, E, K> {
 
 impl<'a, E: SplitEdit> UsesGrantWords for Seat<'a, E, WaiterWords> {}
 
-/// Brings the second seat's view up to the first's: afterwards the second's log begins with all
-/// that the first has seen, and each still has all that it had seen. It may come at any moment, in
-/// the middle of a section too, and is no event of the log. Takes no memory.
+/// Brings the second seat's view up to the first's. Afterwards the log that the first has seen is a
+/// prefix of the second's, and neither has lost what it had seen. It may be called at any time,
+/// also within a section, and is no event of the log. It allocates nothing.
 ///
 /// Requires: both seats are at one table.
 pub fn meet<E: SplitEdit, K: TableWords>(first: &mut Seat<'_, E, K>, second: &mut Seat<'_, E, K>)

@@ -1,4 +1,4 @@
-//! The table that the seats of all CPUs stand at. No call takes memory or waits.
+//! The table that the seats of all CPUs share. No function allocates or blocks.
 
 ghost use Rattle.std.specs.Prelude.{◌≡◌, ◌<◌, ◌≤◌, ◌^◌, IsSome, length};
 ghost use Rattle.{event_log.specs.declared.ids.TheConstants.CPUS, layer_traits.specs.Protocols.OneLock.opened, table_machine.specs.Layout.{rank_of, word_at}};
@@ -11,11 +11,11 @@ use layer_traits::SplitEdit;
 use std::marker::Model;
 
 /// The words and the blocks of locks, shared by threads. Each lock has its words, `next` and those
-/// at which waiters look, and a slot in which its block lies while no CPU is inside it. The locks
-/// are ticket locks, if no other words are named.
+/// that waiters poll, and a slot that contains its block while no CPU is inside it. The locks are
+/// ticket locks by default.
 ///
-/// To a contract it is a table view: which table it is, the blocks that it opened with, and how many
-/// CPUs it has.
+/// In a contract it is a table view: the table's identity, the blocks that it opened with, and its
+/// number of CPUs.
 #[derive(Drop)]
 pub struct Shared<E: SplitEdit, K: TableWords = TicketWords> {
     pub(crate) table: Whole<E, K>,
@@ -53,7 +53,7 @@ impl<E: SplitEdit, K: TableWords> Shared<E, K> {
         self.ranks[lock.number()]
     }
 
-    // Where a word of a lock lies, by its number.
+    // The position of a lock's word, by the word's number.
     pub(crate) fn word(&self, lock: LockId, word: usize) -> usize
         requires lock { IsSome (opened self.now.start lock) }
         requires word { word ≤ CPUS }
@@ -62,8 +62,8 @@ impl<E: SplitEdit, K: TableWords> Shared<E, K> {
         8 * ((CPUS + 1) * self.rank(lock) + word) + 8
     }
 
-    /// How many tickets were drawn at a lock, modulo 2^64, as a hint: any number may come, also where
-    /// there is no such lock. It is no event, and nobody needs a seat for it.
+    /// How many tickets were drawn at a lock, modulo 2^64, as a hint: the result may be any number,
+    /// also if there is no such lock. It is no event, and needs no seat.
     pub fn next_hint(&self, lock: LockId) -> u64 {
         let rank = self.ranks[lock.number()];
         if rank < self.locks.len() {

@@ -1,11 +1,11 @@
-//! An example of another lock: a ticket lock that is given on by a store. No plan can name it.
+//! An example of another lock: a ticket lock that is released by a store. No plan can name it.
 
 ghost use Rattle.std.specs.Prelude.{◌≡◌};
 
 use crate::TableWords;
 
-/// The words of a ticket lock whose holder gives it on by a store: `next` and `serving`. The holder
-/// alone writes `serving`, so it need not add: it stores its ticket plus 1.
+/// The words of a ticket lock whose holder releases it by a store: `next` and `serving`. Only the
+/// holder writes `serving`, so it need not add: it stores its ticket plus 1.
 #[derive(Drop)]
 pub struct StoredWords;
 

@@ -1,11 +1,12 @@
-//! The words of one lock in a table, by which CPUs stand in line. No call takes memory or waits.
+//! The words of one lock in a table, which order the CPUs that wait for it. No function allocates
+//! or blocks.
 
 ghost use Rattle.std.specs.Prelude.{◌≡◌};
 
 use event_log::CPUS;
 
-/// What the words of one lock are and do, as numbers. They lie in the table by their number; word 0
-/// is `next`, from which tickets come. No method touches a table.
+/// The words of one lock and their operations, as numbers. The table stores the words by their
+/// numbers; word 0 is `next`, which issues tickets. No method touches a table.
 pub trait TableWords: Drop {
     ghost use Rattle.table_machine.specs.Kinds.{WordKind, IsWordKind};
 
@@ -16,7 +17,7 @@ pub trait TableWords: Drop {
     fn opens() -> u64
         ensures { result ≡ kind.opens };
 
-    /// The word that a CPU reads while it waits with this ticket.
+    /// The word that a CPU polls while it waits with this ticket.
     fn looks_at(ticket: u64) -> usize
         ensures { result ≡ kind.looks_at ticket };
 
@@ -24,19 +25,20 @@ pub trait TableWords: Drop {
     fn serves(ticket: u64, read: u64) -> bool
         ensures { result ≡ kind.serves ticket read };
 
-    /// The word by which the CPU that holds this ticket gives the lock on.
+    /// The word that the CPU which holds this ticket writes to release the lock.
     fn gives_at(ticket: u64) -> usize
         ensures { result ≡ kind.gives_at ticket };
 
-    /// What that CPU stores there; `None` where it adds 1.
+    /// What that CPU stores there; `None` if it adds 1.
     fn stores(ticket: u64) -> Option<u64>
         ensures { result ≡ kind.stores ticket };
 
-    /// Law: the words tell exactly which spot is served.
+    /// Law: the words determine exactly which spot (ticket index) is served.
     ghost lawful: { IsWordKind kind };
 }
 
-/// The words of a ticket lock: `next` and `serving`, at which all waiters look.
+/// The words of a ticket lock (Mellor-Crummey and Scott 1991): `next`, and `serving`, which all
+/// waiters poll.
 #[derive(Drop)]
 pub struct TicketWords;
 
@@ -73,8 +75,9 @@ impl TableWords for TicketWords {
     ghost lawful = { tickets_are };
 }
 
-/// The words of a lock with a grant word for each waiter: `next`, and a word for each CPU. A waiter
-/// looks at the one of its ticket, modulo [`event_log::CPUS`], at which no other CPU looks.
+/// The words of a lock with a grant word for each waiter, as in Anderson's array lock (1990):
+/// `next`, and a word for each CPU. A waiter polls the word of its ticket, modulo
+/// [`event_log::CPUS`], which no other CPU polls.
 #[derive(Drop)]
 pub struct WaiterWords;
 

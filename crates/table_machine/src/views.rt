@@ -1,4 +1,4 @@
-//! What lies in a slot, and what a seat knows.
+//! The contents of a slot, and what a seat knows.
 
 ghost use Rattle.std.specs.Prelude.{◌≡◌, None, Some};
 
@@ -8,16 +8,16 @@ use std::collections::LinkedList;
 use std::marker::Model;
 use std::mem;
 
-/// What lies in the slot of a lock: its block and, for clauses alone, the edit of the section that
-/// left it there.
+/// The contents of a lock's slot: its block and, only for clauses, the edit of the section that
+/// left the block there.
 #[derive(Drop)]
 pub(crate) struct Home<E, B> {
     pub(crate) block: Option<B>,
     pub(crate) edit: Ghost<Option<E>>,
 }
 
-/// The slot of a lock, seen as what lies in it. Slots lie side by side, and CPUs that are inside
-/// different locks write theirs at the same time: so 128 bytes behind what lies there are left
+/// The slot of a lock, viewed as its contents. Slots are adjacent, and CPUs that are inside
+/// different locks write theirs at the same time. Therefore 128 bytes after the contents are left
 /// unused, and at any address no two slots share a pair of cache lines.
 #[derive(Drop)]
 pub(crate) struct Slot<E, B> {
@@ -36,7 +36,7 @@ impl<E, B> Model for Slot<E, B> {
 impl<E: Drop, B: Drop> Slot<E, B> {
     ghost use Rattle.table_machine.specs.Rule.{fresh_home};
 
-    /// A slot in which this block lies, and no section left it there.
+    /// A slot with this block, which no section left there.
     pub(crate) fn new(block: B) -> Slot<E, B>
         ensures { result ≡ fresh_home block }
     {
@@ -49,7 +49,7 @@ impl<E: Drop, B: Drop> Slot<E, B> {
         }
     }
 
-    /// What lies in the slot.
+    /// The contents of the slot.
     pub(crate) fn into_home(self) -> Home<E, B>
         ensures { result ≡ self }
     {
@@ -66,7 +66,7 @@ impl<E: Drop, B: Drop> Slot<E, B> {
         mem::replace(&mut self.home.block, None)
     }
 
-    /// Puts a block in, in place of what lies there, with the edit of the section that leaves it.
+    /// Puts a block in, in place of the contents, with the edit of the section that leaves it.
     #[inline(always)]
     pub(crate) fn put(&mut self, block: B, edit: E)
         ensures { self.new ≡ record { block = Some block; edit = Some edit } }
@@ -76,7 +76,7 @@ impl<E: Drop, B: Drop> Slot<E, B> {
     }
 }
 
-/// What a seat knows. No value of it is made: it exists in proofs alone.
+/// What a seat knows. No value of it is made: it exists only in proofs.
 pub struct View<E, B> {
     /// The blocks that the table opened with.
     pub start: LinkedList<(LockId, B)>,
@@ -84,7 +84,7 @@ pub struct View<E, B> {
     pub cpus: LinkedList<CpuId>,
     /// The log that it has seen.
     pub seen: LinkedList<Event<Mark<E>>>,
-    /// What another seat had seen, until the next load takes it in.
+    /// What another seat had seen, until the next load merges it.
     pub told: LinkedList<Event<Mark<E>>>,
     /// The CPUs that the other seat acted for.
     pub lent: LinkedList<CpuId>,

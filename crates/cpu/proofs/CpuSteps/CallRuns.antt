@@ -1,4 +1,5 @@
--- A message call that goes on for several steps: each poll and each look of it is a step of its CPU.
+-- A message call that takes several steps: each poll of it, and each poll of a lock, is a step of
+-- its CPU.
 use Rattle.std.proofs.Common.{◌≡◌, ◌++◌, ◌<◌, ◌≤◌, ◌+◌, ℕ, Bool, true, false, not, List, length, Option, Some, None, option_map, refl, ap, sym, ◌∙◌, subst}
 use Rattle.std.proofs.{Common.{arith, vec_capacity}, lemmas.List.{append-nil, length-set, Folds.list_all_at}}
 use Rattle.layer_traits.specs.Layers.{BufferLaw.{Buffering, Answered, answer_in, begun_of, buffer_of, call_state_of}, IpcLaw.ipc_plan}
@@ -17,13 +18,13 @@ use Rattle.cpu.proofs.OverLayer.CpuOverLayer.{IsLayered, PartLaws, layered, acts
 use Rattle.cpu.proofs.{ListFacts.{GuestLists.{at_same, count_with, guest_within, programs_with}, ListReads.set_twice}, StepTable.TablePolls.TabledPoll}
 use Rattle.cpu.proofs.StepTable.{TablePolls.{poll_tabled, poll_steps as poll_by_table}, TableCalls.{fifo_follows, hand_preserved, looked_steps}}
 
--- a call that is answered has had an effect
+-- a call that has a reply has had an effect
 replies_so : (call : Call) (state : CallState) (answer : Option Reply) → Answered call state answer → Replies call state.effect answer
 replies_so call state None answered = tt
 replies_so call state (Some reply) answered = answered.1
 
 module _ {P L M : Type 0} {I : Ghosts P L M} (laws : PartLaws I) (m : M) (p : Cpu P M) (cpu : IsLayered I m p) where
-  -- a look that took the CPU to r, with all else of the CPU as it was
+  -- a poll of a lock that took the CPU to r, with all else of the CPU as it was
   pub look_steps : (n : M) (r : Cpu P M) → LookedAt I ipc_plan true p.part m r.part n → r.number ≡ p.number → r.limit ≡ p.limit
       → r.guests.items ≡ p.guests.items → r.trace.items ≡ p.trace.items → vec_capacity p.trace ≤ vec_capacity r.trace → SteppedAt I m p n r
   look_steps n r looked number limit guests trace capacity = record {
@@ -48,7 +49,7 @@ module _ {P L M : Type 0} {I : Ghosts P L M} (laws : PartLaws I) (m : M) (p : Cp
         (I.own p.part) (I.own r.part) p.guests.items p.trace.items (I.acts m) (I.acts n) cpu.number looked.own (looked.tries step refl));
   }
 
-  -- a poll of the call of t that took the CPU to r, which noted what it told
+  -- a poll of the call of t that took the CPU to r, which recorded the result
   module _ (live : stops_at I p ≡ None) (t : Tid) (call : Call) (chose : chosen (threads_in (I.own p.part)) p.guests.items ≡ Polls t call)
       (free : begins_at (guest_at p.guests.items t.0) ≡ true → length p.trace.items + begun_count p.guests.items < p.limit)
       (n : M) (r : Cpu P M) (told : Option ReplyKind) (polled_so : PolledAt I ipc_plan t call p.part m r.part n told) (number : r.number ≡ p.number)
@@ -101,7 +102,7 @@ module _ {P L M : Type 0} {I : Ghosts P L M} (laws : PartLaws I) (m : M) (p : Cp
       trace_is = trace_is;
     }
 
-    -- the call goes on, has its effect or returns
+    -- the call continues, takes effect or returns
     went : GuestsWent p.number p.guests.items p.trace.items r.guests.items r.trace.items
     went =
         let polls = polls_at (valid_cpu cpu.is) t call chose in
@@ -143,12 +144,12 @@ with_twice : (guests : List (Option Guest)) (t : ℕ) (f h : Guest → Guest) (g
     → with_guest guests t h ≡ with_guest (with_guest guests t f) t h
 with_twice guests t f h g at same = grind (arith, set_twice, at_same)
 
--- after a run the CPU stands over its layer again
+-- after a run the CPU is over its layer again
 runs_layered : {P L M : Type 0} {I : Ghosts P L M} {m n : M} {p q : Cpu P M} {k : ℕ} → PartLaws I → IsLayered I m p → RunsAt I m p k n q → IsLayered I n q
 runs_layered laws cpu RunsAt.no_steps = cpu
 runs_layered {n = n} {q = q} laws cpu (RunsAt.then_step runs s) = layered laws n q s.agrees
 
--- looks of its part behind so many steps are steps too
+-- polls of a lock by its part after so many steps are steps too
 pub looks_run : {P L M : Type 0} {I : Ghosts P L M} {m n : M} {p q : Cpu P M} {j k : ℕ} {r : P} {o : M} → PartLaws I → IsLayered I m p
     → RunsAt I m p j n q → LookedOnAt I ipc_plan q.part n j k r o → RunsAt I m p k o (record q { part = r })
 looks_run laws cpu ran LookedOn.none = ran
@@ -157,7 +158,7 @@ looks_run {q = q} {r = r} {o = o} laws cpu ran (LookedOn.more {q = s} {n = n} lo
     RunsAt.then_step amid
     (look_steps laws n (record q { part = s }) (runs_layered laws cpu amid) o (record q { part = r }) last refl refl refl refl (omega arith))
 
--- the CPU stands at the call of t
+-- the CPU is at the call of t
 module _ {P L M : Type 0} {I : Ghosts P L M} (laws : PartLaws I) (m : M) (p : Cpu P M) (cpu : IsLayered I m p) (live : stops_at I p ≡ None)
     (t : Tid) (call : Call) (chose : chosen (threads_in (I.own p.part)) p.guests.items ≡ Polls t call)
     (free : begins_at (guest_at p.guests.items t.0) ≡ true → length p.trace.items + begun_count p.guests.items < p.limit) where
@@ -165,7 +166,7 @@ module _ {P L M : Type 0} {I : Ghosts P L M} (laws : PartLaws I) (m : M) (p : Cp
   abbrev had_in : P → Option Effect
   had_in q = (call_state_of (I.own q).call_states t).effect
 
-  -- the CPU after steps of the call that left it this part and told nothing
+  -- the CPU after steps of the call that left it this part and returned nothing
   abbrev between : P → Cpu P M
   between q = record p {
     part = q;
@@ -217,7 +218,8 @@ module _ {P L M : Type 0} {I : Ghosts P L M} (laws : PartLaws I) (m : M) (p : Cp
         → with_guest p.guests.items t.0 (λ g. polled g e a) ≡ with_guest (between q).guests.items t.0 (λ g. polled g e a)
     guests_between e a = with_twice p.guests.items t.0 (λ g. polled g (had_in q) None) (λ g. polled g e a) polls.guest polls.at refl
 
-  -- a run of polls and looks of the call that took the CPU to r, which noted what the last told, is as many steps
+  -- consecutive polls of the call and of its lock that took the CPU to r, which recorded the last
+  -- result, are as many steps
   pub call_runs : {k : ℕ} {q : P} {n : M} {told : Option ReplyKind} → PolledOnAt I ipc_plan t call p.part m k q n told → (r : Cpu P M) → r.part ≡ q
       → r.number ≡ p.number → r.limit ≡ p.limit
       → r.guests.items ≡ with_guest p.guests.items t.0 (λ g. polled g (had_in r.part) (answer_in (I.own r.part).call_states t told))

@@ -13,7 +13,7 @@ use Rattle.cpu.{specs.Guests.{stage_after, todo_of}, proofs.ListFacts.GuestLists
 use Rattle.cpu.proofs.{ListFacts.GuestLists.{trace_reversed, room_kept}, CpuSteps.{CpuStates.ValidCpu, GuestsFollow.{answered_by, poll_followed, had_going}}}
 use Rattle.cpu.proofs.CpuSteps.GuestsFollow.{may_poll_call, stays_settled}
 
--- what a chosen poll tells: its thread runs, and its guest asks for the call
+-- what a chosen poll implies: its thread runs, and its guest is at the call
 pub record PollsAt (own : Threads) (guests : List (Option Guest)) (t : Tid) (c : Call) : Type 0 where
   pub runs : own.current ≡ Some t
   pub guest : Guest
@@ -51,11 +51,11 @@ polls_is own guests t c is = go own.current refl is
     go None runs chose = absurd (grind (arith, chose))
     go (Some u) runs chose = for_polls own guests u t own.hand (guest_at guests u.0) c runs refl chose
 
--- a guest that asks for a call has not ended
+-- a guest that is at a call has not ended
 asks_lives : (g : Guest) (es : List Entry) (call_state : CallState) (c : Call) → HasCome g es call_state → todo_of g ≡ Calls c → is_ended g.stage ≡ false
 asks_lives g es call_state c follows asks = grind arith
 
--- what one poll of a call leaves of a CPU, for whom the machine's holder acts
+-- what one poll of a call leaves of a CPU for which the machine's holder acts
 pub record PolledCpu (ActsFor : CpuId → Type 0) (cpu : ValidCpu) (t : Tid) (c : Call) : Type 0 where
   pub call_states : List CallState
   pub seen : List Entry
@@ -72,7 +72,7 @@ pub record PolledCpu (ActsFor : CpuId → Type 0) (cpu : ValidCpu) (t : Tid) (c 
   pub under_way_is : under_way ≡ still_calling t own.current answer
   pub guests_is : guests ≡ with_guest cpu.guests t.0 (λ g. polled g ((call_state_of call_states t).effect) answer)
   pub trace_is : trace ≡ cpu.trace ++ entries_of cpu.number t (buffer_of c) (fresh_at (guest_at cpu.guests t.0) ((call_state_of call_states t).effect))
-  -- a call began only where the trace had room for its entry, and the trace's own room is no less
+  -- a call began only if the trace had room for its entry, and the trace's own room is no less
   pub strict : begins_at (guest_at cpu.guests t.0) ≡ true → length cpu.trace + begun_count cpu.guests < cpu.limit
   pub capacity_is : cpu.capacity ≤ capacity
 
@@ -184,7 +184,7 @@ module _ (cpu : ValidCpu) (t : Tid) (c : Call) (chose : chosen cpu.own cpu.guest
         go (inl same) = (next, subst (λ (k : ℕ). guest_at guests2 k ≡ Some next) (sym same) guest_new)
         go (inr other) = let there = is.homed u at in (there.0, guest_other u.0 other ∙ there.1)
 
-    -- the call goes on
+    -- the call continues
     calling_none : (f : Option Effect) → is_calling (stage_after f None) ≡ true
     calling_none f = grind arith
 

@@ -1,4 +1,4 @@
--- Runs of steps of one CPU: one behind the other, and what is left of the machine's room.
+-- Runs of steps of one CPU: one after the other, and what is left of the machine's room.
 use Rattle.std.proofs.Common.{◌≡◌, ℕ, ◌+◌, ◌-◌, ◌<◌, ◌≤◌, ◌⊎◌, inl, inr, None, subst, arith}
 use Rattle.{layer_traits.specs.declared.call_layers.CallLayer.Ghosts, cpu.specs.declared.cpus.Cpu.Cpu}
 use Rattle.cpu.specs.CpuSteps.{AgreesAt, GoesAt, RanWithin, RunsAt, SteppedAt, stops_at}
@@ -14,7 +14,7 @@ module _ {P L M : Type 0} {I : Ghosts P L M} {m : M} {p : Cpu P M} where
   one_step (RunsAt.then_step RunsAt.no_steps s) one = s
   one_step (RunsAt.then_step (RunsAt.then_step runs first) s) one = absurd (omega (arith, one))
 
-  -- a run behind another
+  -- a run after another
   pub runs_on : {n : M} {q : Cpu P M} {j k : ℕ} {o : M} {r : Cpu P M} → RunsAt I m p j n q → RunsAt I n q k o r → RunsAt I m p (j + k) o r
   runs_on {n = n} {q = q} {j = j} first RunsAt.no_steps =
       let same : j ≡ j + 0 = omega arith in
@@ -50,7 +50,7 @@ module _ {P L M : Type 0} {I : Ghosts P L M} {m : M} {p : Cpu P M} where
       let left = runs_room ran in
       record { agrees = runs_agree goes.agrees ran; some = omega (arith, few); room = omega (arith, room, left); live = live }
 
--- a run that its looks have ended took steps
+-- a run that ended with polls of a lock took steps
 pub some_taken : (before taken most : ℕ) → 0 < most → (taken ≡ most) ⊎ (taken ≡ before + 2) → 0 < taken
 some_taken before taken most some (inl is) = omega (arith, some, is)
 some_taken before taken most some (inr is) = omega (arith, is)

@@ -1,11 +1,12 @@
--- A CPU at one moment with what holds of it then, as the lemmas about its steps take it.
+-- A CPU at one moment with its invariant, as the lemmas about its steps take it.
 use Rattle.std.proofs.Common.{◌≡◌, ℕ, Bool, false, List, slice_get, Option, Some, None, IsSome}
 use Rattle.layer_traits.specs.{Views.OwnParts.threads_in, declared.call_states.CallState.CallState, Threads.Places.{Threads, home_of}}
 use Rattle.{layer_traits.specs.{Polling.Plans.is_in_section, Layers.BufferLaw.{Buffering, UnderWay}}, event_log.specs.declared.entries.Entry.Entry}
 use Rattle.{event_log.specs.{declared.ids.{CpuId.CpuId, LockId.LockId, Tid.Tid}, Actions.{Action, phase}}, cpu.specs.{declared.guests.Guest.Guest, Cpus.IsCpu}}
 use Rattle.cpu.specs.{Tables.IsTabled, Tower.Views.{TowerBlock, TowerName}}
 
--- all but its part of the layer: its machine's homes, how many buffers it has and the effects seen in it, and what the CPU keeps for itself
+-- all but its part of the layer: its machine's homes, how many buffers it has and the effects seen
+-- in it, and what the CPU keeps for itself
 pub record CpuState : Type 0 where
   pub homes : List CpuId
   pub buffers : ℕ
@@ -17,7 +18,8 @@ pub record CpuState : Type 0 where
   pub limit : ℕ
   pub capacity : ℕ
 
--- a CPU, by the threads and call states that its part tells, of which holds what always holds of one
+-- a CPU, given by the threads and call states that its part reports, that satisfies the invariant
+-- of CPUs
 pub record ValidCpu : Type 0 where
   pub state : CpuState
   pub open state use *
@@ -25,7 +27,7 @@ pub record ValidCpu : Type 0 where
   pub call_states : List CallState
   pub is : IsCpu homes buffers seen own call_states under_way number guests trace limit capacity
 
--- the CPU of which a fact tells that it holds
+-- the CPU whose invariant this fact is
 abbrev pub valid_cpu : {homes : List CpuId} {buffers : ℕ} {seen : List Entry} {own : Threads} {call_states : List CallState} {under_way : Option UnderWay}
     {number : CpuId} {guests : List (Option Guest)} {trace : List Entry} {limit capacity : ℕ}
     → IsCpu homes buffers seen own call_states under_way number guests trace limit capacity → ValidCpu
@@ -46,7 +48,7 @@ valid_cpu {homes} {buffers} {seen} {own} {call_states} {under_way} {number} {gue
   is = is;
 }
 
--- a CPU over the tower, by the whole state of its part, that is as the table asks
+-- a CPU over the tower, given by the whole state of its part, that is as the step table requires
 pub record TabledCpu : Type 0 where
   pub state : CpuState
   pub open state use *
@@ -60,7 +62,8 @@ pub record TabledCpu : Type 0 where
 abbrev pub valid : TabledCpu → ValidCpu
 valid cpu = record { state = cpu.state; own = threads_in cpu.own; call_states = cpu.own.call_states; is = cpu.is }
 
--- the machine's holder acts for a CPU, of whose part it is known whether a section is under way and that the thread in its hand has a home
+-- the machine's holder acts for a CPU, of whose part it is known whether a section is under way and
+-- that the thread in its hand has a home
 pub record Outset (ActsFor : CpuId → Type 0) (cpu : TabledCpu) (old : List (Action TowerName)) : Type 0 where
   pub inside : Bool
   pub acts : ActsFor cpu.number

@@ -14,16 +14,16 @@ use Rattle.guest.specs.declared.instructions.Instruction.TheVariants as ins
 pub had_going : (call_state : CallState) (c : Call) → MayPollCall call_state c → (going call_state c).effect ≡ had (begun_of call_state) call_state.effect
 had_going call_state c may = grind (arith, may)
 
--- a call state may go on with the call that it has begun, and where it has begun none with any
+-- a call state may continue the call that it has begun, and any call if it has begun none
 pub may_poll_call : (call_state : CallState) (c : Call) → IsSettled call_state → (begun_of call_state ≡ None) ⊎ (begun_of call_state ≡ Some c)
     → MayPollCall call_state c
 may_poll_call call_state c settled either = grind arith
 
--- an answered call state is settled
+-- a call state with a reply is settled
 pub stays_settled : (c : Call) (call_state : CallState) (answer : Option Reply) → Answered c call_state answer → IsSettled call_state
 stays_settled c call_state answer is = grind arith
 
--- an answer and what the call state then says, on plain values
+-- a result, and what the call state then implies, on plain values
 abbrev pub AnsweredBy : Call → Option Call → Option Effect → Option Reply → Type 0
 AnsweredBy c saved effect None = saved ≡ Some c
 AnsweredBy c saved effect (Some reply) = (saved ≡ None) × ((f : Effect) × (effect ≡ Some f) × (reply ≡ reply_of c f))
@@ -42,7 +42,8 @@ received_state : (of : Kind) (k : Option ℕ) (value : Message) (d b : BufId) (i
     → after_received of into k value s ≡ after_answer (Some (reply_by (Recv d) of value)) (ins.Recv b into k) s
 received_state of k value d b into s = grind arith
 
--- an entry whose kind is counted with sends is one more call of a program that stands at a send of its buffer and its message
+-- an entry whose kind is counted with sends is one more call of a program that is at a send of its
+-- buffer and its message
 module _ (program : List Instruction) (es : List Entry) (s : State) (b : BufId) (e : Entry) (buffer : e.buffer ≡ b) (calls : IsProgramsCalls program es s) where
   sent_more : (from : Source) (k : Option ℕ) → next_of program s ≡ ins.Send b from k → e.value ≡ message_from s from → (of : Kind)
       → e.kind ≡ of → group_of of ≡ Sends → IsProgramsCalls program (e ∷ es) (after_sent of k s)
@@ -74,7 +75,8 @@ calls_more program es s other rest f cpu t at todo is calls = absurd cc
 
 module _ (program : List Instruction) (s : State) (i : Instruction) (c : Call) (cpu : CpuId) (t : Tid) (at : next_of program s ≡ i)
     (todo : todo_at s i ≡ Calls c) where
-  -- between polls of the call: no effect and the calls that lead to the state, or an effect and those that lead past it
+  -- between polls of the call: no effect and the calls that lead to the state, or an effect and
+  -- those that lead past it
   abbrev Mid : Option Effect → List Entry → Type 0
   Mid None es = IsProgramsCalls program es s
   Mid (Some f) es = IsEffectOf c f × IsProgramsCalls program es (state_after_effect i f s)
@@ -96,12 +98,13 @@ module _ (program : List Instruction) (s : State) (i : Instruction) (c : Call) (
       ))
   before Ended es saved effect follows = absurd (cc (subst (λ (j : Instruction). todo_at s j ≡ Calls c) (sym at ∙ follows.2) todo))
 
-  -- an effect is fresh where the call had none before
+  -- an effect is fresh if the call had none before
   fresh_none : (stage : GuestStage) (es : List Entry) (saved : Option Call) (effect left : Option Effect)
       → HasComeIn stage program s es saved effect → had saved effect ≡ None → fresh_effect stage left ≡ left
   fresh_none stage es saved effect left follows none = grind arith
 
-  -- what one poll does to a guest: which effect is written, and that the guest follows its entries with that one
+  -- what one poll does to a guest: which effect is written, and that the guest follows its entries
+  -- with that one
   pub poll_followed : (stage : GuestStage) (es : List Entry) (saved saved2 : Option Call) (effect effect2 mine : Option Effect) (answer : Option Reply)
       → HasComeIn stage program s es saved effect → ((f : Effect) → mine ≡ Some f → (had saved effect ≡ None) × (effect2 ≡ Some f) × IsEffectOf c f)
       → (mine ≡ None → effect2 ≡ had saved effect) → AnsweredBy c saved2 effect2 answer

@@ -1,4 +1,5 @@
--- The steps in which no call goes on: an instruction of a thread's own, and the passes from thread to thread.
+-- The steps in which no call continues: an instruction that shares nothing, and the passes
+-- (scheduling operations).
 use Rattle.std.proofs.Common.{◌≡◌, ◌≢◌, ◌⊎◌, inl, inr, ℕ, ◌+◌, ◌<◌, ◌==◌, Bool, true, false, List, [], ◌∷◌, ◌++◌, length, Option, Some, None, option_map, refl}
 use Rattle.std.{proofs.{Common.{ap, sym, ◌∙◌, subst, arith, reverse, slice_set}, lemmas.{Bool.{cases_eq, ne_eqb}, List.length-set}}, specs.List.AllByRecursion}
 use Rattle.{event_log.specs.declared.{entries.Entry.Entry, ids.Tid.Tid}, thread_blocks.specs.Queues.is_in}
@@ -13,7 +14,7 @@ use Rattle.cpu.{specs.Cpus.{is_begun_guest, of_cpu, of_thread, passed_by, with_g
 use Rattle.cpu.proofs.{ListFacts.GuestLists.guest_within, CpuSteps.CpuStates.ValidCpu}
 use Rattle.guest.specs.declared.instructions.Instruction.TheVariants as ins
 
--- an instruction that asks for no call: the guest is in none
+-- an instruction that requests no call: the guest is in none
 pub in_no_call : (g : Guest) (es : List Entry) (begun : Option Call) (effect : Option Effect) (todo : Todo)
     → HasComeIn g.stage g.program g.thread es begun effect
     → todo_of g ≡ todo → ((c : Call) → todo ≡ Calls c → ⊥) → (is_calling g.stage ≡ false) × (is_begun g.stage ≡ false)
@@ -22,7 +23,8 @@ in_no_call g es begun effect todo follows asks none = grind arith
 pub finish_exit : (s : State) (i : Instruction) → todo_at s i ≡ Finish → i ≡ ins.Exit
 finish_exit s i is = grind arith
 
--- who stands behind a list and the thread that ran, and is not that thread, stands in the list
+-- a thread in a list followed by the thread that ran, and different from that thread, is in the
+-- list
 in_before : (u : Tid) (t : Tid) (q : List Tid) → u.0 ≢ t.0 → is_in u (q ++ t ∷ []) ≡ true → is_in u q ≡ true
 in_before u t [] other is = grind (arith, ne_eqb)
 in_before u t (x ∷ q) other is = go (u.0 == x.0) refl (in_before u t q other)
@@ -53,7 +55,7 @@ module _ (cpu : ValidCpu) where
     reserved = is.reserved;
   }
 
-  -- one thread's guest goes on, without an entry
+  -- one thread's guest continues, without an entry
   guest_goes : (t : Tid) (g : Guest) (f : Guest → Guest) (seen2 : List Entry) (own2 : Threads) (under_way2 : Option UnderWay)
       → guest_at guests t.0 ≡ Some g → of_cpu number seen2 ≡ of_cpu number seen → (f g).program ≡ g.program → is_begun (f g).stage ≡ is_begun g.stage
       → HasComeIn (f g).stage (f g).program (f g).thread (of_thread t.0 (of_cpu number seen)) (begun_of (call_state_of call_states t))
@@ -94,7 +96,7 @@ module _ (cpu : ValidCpu) where
           go (inl equal) = (f g, subst (λ (k : ℕ). guest_at (with_guest guests t.0 f) k ≡ Some (f g)) (sym equal) (at_same guests t.0 f g at))
           go (inr other) = (there.0, at_other guests t.0 u.0 f other ∙ there.1)
 
-  -- What is chosen, by who runs.
+  -- What is chosen, by the running thread.
   pub computes_at : (t : Tid) → chosen own guests ≡ Computes t → (own.current ≡ Some t) × ((g : Guest) × (guest_at guests t.0 ≡ Some g) × (todo_of g ≡ Compute))
   computes_at t chose = grind arith
 
@@ -117,7 +119,7 @@ module _ (cpu : ValidCpu) where
       guest_goes t g computed seen own under_way at refl refl refl (rw at_idle after) (λ over. is.over t over g at) (λ u other over. over) quiet
       (λ u runs. is.handed u runs (grind arith))
 
-  -- the cases of a chosen pass, where each thread that runs is at home
+  -- the cases of a chosen pass, if the home CPU of each running thread is this one
   pub data PassCase : Pass → Type 0 where
     switches : own.current ≡ None → own.hand ≡ None → (own.ready ≡ [] → ⊥) → PassCase Switch
     drains : own.current ≡ None → own.hand ≡ None → own.ready ≡ [] → PassCase Drain
@@ -178,7 +180,7 @@ module _ (cpu : ValidCpu) where
   pub current_within : ((t : Tid) → own.current ≡ Some t → home_of homes t ≡ Some number) → (t : Tid) → own.current ≡ Some t → t.0 < length guests
   current_within home t runs = let there = is.homed t (home t runs) in guest_within guests t.0 there.0 there.1
 
-  -- a pass that has not answered
+  -- a pass that has not ended
   pub noted_wait : (pass : Pass) (seen2 : List Entry) (own2 : Threads) (under_way2 : Option UnderWay) → chosen own guests ≡ Passes pass
       → of_cpu number seen2 ≡ of_cpu number seen → own2 ≡ own → under_way2 ≡ Some (Passing pass)
       → IsCpu homes buffers seen2 own2 call_states under_way2 number guests trace limit capacity
@@ -234,7 +236,7 @@ module _ (cpu : ValidCpu) where
   noted_done pass queue seen2 own2 under_way2 guests2 home chose same stays does moved =
       rw (stays, does, moved) (case_done pass queue seen2 (pass_case pass home chose) same)
 
-  -- effects of others alone
+  -- only effects of other CPUs
   pub seen_stays : (seen2 : List Entry) → of_cpu number seen2 ≡ of_cpu number seen
       → IsCpu homes buffers seen2 own call_states under_way number guests trace limit capacity
   seen_stays seen2 same = record {

@@ -1,4 +1,5 @@
--- What a step leaves beside the guests: how effects and actions grow, and the steps in which no guest's call goes on.
+-- What a step leaves apart from the guests: how effects and actions grow, and the steps in which no
+-- guest's call continues.
 use Rattle.std.proofs.Common.{◌≡◌, ◌==◌, List, [], ◌∷◌, ◌++◌, Option, Some, None, refl, ap, ◌∙◌, arith}
 use Rattle.event_log.specs.{declared.{entries.Entry.Entry, ids.{CpuId.CpuId, LockId.LockId, Tid.Tid}}, Actions.{Action, Try, Phase, action_in, cpu_of_action}}
 use Rattle.{event_log.specs.Actions.{gives, phase, spot_of}, layer_traits.specs.declared.calls.{Call.Call, Effect.Effect, Reply.Reply}}
@@ -23,7 +24,7 @@ follows_grow ActsFor table opening cpu (Act lock name react) old new got follows
   is = follows.acted.grows ∙ ap (λ (l : List (Action _)). action_in cpu lock name follows.past (phase cpu follows.past) ∷ l) follows.acted.joined;
 }
 
--- a look did one
+-- a poll of a lock did one
 pub tries_grow : {N : Type 0} (ActsFor : CpuId → Type 0) (cpu : CpuId) (old new : List (Action N)) → Tries ActsFor cpu old new → ActsGrow ActsFor cpu old new
 tries_grow ActsFor cpu old new tries = record {
   others = tries.others;
@@ -33,7 +34,7 @@ tries_grow ActsFor cpu old new tries = record {
   is = tries.grows ∙ ap (λ (l : List (Action _)). Try cpu tries.lock (gives tries.lock tries.past == spot_of cpu tries.past) ∷ l) tries.joined;
 }
 
--- nothing came
+-- nothing was appended
 pub none_grow : {N : Type 0} (ActsFor : CpuId → Type 0) (cpu : CpuId) (old new : List (Action N)) → new ≡ old → ActsGrow ActsFor cpu old new
 none_grow ActsFor cpu old new is = record { others = []; mine = []; foreign = λ c acts. tt; own = tt; is = is }
 
@@ -43,7 +44,7 @@ none_seen ActsFor cpu old new is = record { others = []; mine = []; foreign = λ
 pub none_moved : (ActsFor : CpuId → Type 0) (cpu : CpuId) (old new : List Step) → new ≡ old → MovesGrow ActsFor cpu old new
 none_moved ActsFor cpu old new is = record { others = []; mine = []; foreign = λ c acts. tt; own = tt; is = is }
 
--- a pass moves at most its CPU's own threads
+-- a pass moves at most its CPU's threads
 pub passed_grows : (homes : List CpuId) (ActsFor : CpuId → Type 0) (c : CpuId) (call : Pass) {A : Type 0} (result : Option A) (old new : List Step)
     (own own' : Threads) → PassPolled homes ActsFor c call result old new own own' → MovesGrow ActsFor c old new
 passed_grows homes ActsFor c call None old new own own' polled =
@@ -51,7 +52,7 @@ passed_grows homes ActsFor c call None old new own own' polled =
 passed_grows homes ActsFor c call (Some a) old new own own' polled =
     record { others = polled.others; mine = pass_steps homes c call; foreign = polled.foreign; own = grind arith; is = polled.is }
 
--- effects of others alone
+-- only effects of other CPUs
 pub others_grow : (ActsFor : CpuId → Type 0) (cpu : CpuId) (old new : List Entry) → OthersSeen ActsFor old new → SeenGrows ActsFor cpu old new
 others_grow ActsFor cpu old new seen = record { others = seen.others; mine = []; foreign = seen.foreign; own = tt; few = omega arith; is = seen.is }
 
@@ -72,7 +73,7 @@ called_grows ActsFor cpu t call call_states left old new answer called = go call
           is = is;
         }
 
--- effects of others leave a CPU's own
+-- effects of other CPUs leave a CPU's own unchanged
 pub others_same : (ActsFor : CpuId → Type 0) (number : CpuId) (old new : List Entry) → OthersSeen ActsFor old new → ActsFor number
     → of_cpu number new ≡ of_cpu number old
 others_same ActsFor number old new seen acts = ap (λ (l : List Entry). of_cpu number l) seen.is ∙ cpu_same ActsFor number seen.others old seen.foreign acts

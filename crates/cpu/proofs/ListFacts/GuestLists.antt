@@ -1,4 +1,5 @@
--- Tables of guests with one guest changed, and the entries of a CPU and of a thread in a grown history.
+-- Tables of guests with one guest changed, and the entries of a CPU and of a thread in a grown
+-- history.
 use Rattle.std.proofs.Common.{◌≡◌, ◌≢◌, ℕ, zero, suc, ◌+◌, ◌<◌, ◌≤◌, ◌==◌, true, not, List, [], ◌∷◌, ◌++◌, length, slice_index_or, count_by, reverse, get_or}
 use Rattle.std.proofs.{Common.{Option, Some, None, option_map, refl, ap, sym, ◌∙◌, subst, arith, slice_set}, lemmas.{Bool.{cases_eq, eq-eqb}, Option.same_Some}}
 use Rattle.std.proofs.lemmas.List.{append-nil, reverse-append, get_or-set_same, get_or-set_other, set-get_or, map-set, Elements.filter-append, Sums.sum_by-set}
@@ -39,7 +40,7 @@ pub at_programs : (guests : List (Option Guest)) (t : ℕ) → get_or (programs_
 at_programs (x ∷ guests) (suc t) = at_programs guests t
 at_programs guests t = refl
 
--- where the change keeps the guest's program, the programs stay
+-- if the change keeps the guest's program, the programs stay
 pub programs_with : (guests : List (Option Guest)) (t : ℕ) (f : Guest → Guest) → ((g : Guest) → (f g).program ≡ g.program)
     → programs_of (with_guest guests t f) ≡ programs_of guests
 programs_with guests t f keeps =
@@ -66,12 +67,12 @@ pub none_of : (number : CpuId) (others : List Entry) → AreOthers cpu_of_entry 
 none_of number [] theirs = refl
 none_of number (e ∷ others) theirs = rw theirs.0 (none_of number others theirs.1)
 
--- this CPU's entries after foreign ones
+-- this CPU's entries after those of the environment
 pub cpu_same : (ActsFor : CpuId → Type 0) (number : CpuId) (others old : List Entry) → AreForeign ActsFor cpu_of_entry others → ActsFor number
     → of_cpu number (others ++ old) ≡ of_cpu number old
 cpu_same ActsFor number others old foreign acts = grind (arith, filter-append, none_of)
 
--- and after an own one too
+-- and after another entry of this CPU
 pub cpu_grown : (ActsFor : CpuId → Type 0) (number : CpuId) (t : Tid) (b : BufId) (mine : Option Effect) (others old : List Entry)
     → AreForeign ActsFor cpu_of_entry others → ActsFor number
     → of_cpu number (entries_of number t b mine ++ (others ++ old)) ≡ entries_of number t b mine ++ of_cpu number old

@@ -5,7 +5,8 @@ use Rattle.std.{proofs.lemmas.Option.slice_get_read, specs.{Prelude.{slice_get, 
 use Rattle.{event_log.specs.{declared.ids.LockId.LockId, History.same_lock, Sections.{Section, block_after}}, cpu.specs.Claims.listed}
 pub use Rattle.event_log.proofs.ListLemmas.{set_else, set_there, there_is}
 
--- what is so of the block that a lock has at first, and what each edit keeps, is so after any sections
+-- what is so of the block that a lock has at first, and what each edit keeps, is so after any
+-- sections
 pub blocks_keep : {E B : Type 0} (P : Option B → Type 0) (edited : E → B → B) (opening : LockId → Option B) (lock : LockId) → P (opening lock)
     → ((e : E) (o : Option B) → P o → P (option_map (edited e) o)) → (past : List (Section E)) → P (block_after edited opening lock past)
 blocks_keep P edited opening lock opens keeps [] = opens
@@ -15,7 +16,7 @@ blocks_keep {B = B} P edited opening lock opens keeps (s ∷ past) =
     by_test : (here : Bool) (o : Option B) → P o → P (if here then option_map (edited s.edit) o else o)
     by_test here o before = grind arith
 
--- a write of what stands there changes nothing
+-- a write of the value that is there changes nothing
 pub set_again : {X : Type 0} (xs : List X) (i : ℕ) (x : X) → slice_get xs i ≡ Some x → slice_set xs i x ≡ xs
 set_again [] i x at = refl
 set_again (z ∷ zs) zero x at = let same : z ≡ x = cc in ap (λ v. v ∷ zs) (sym same)

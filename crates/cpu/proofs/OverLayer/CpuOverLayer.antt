@@ -1,4 +1,5 @@
--- A CPU over a layer of message calls, by what the layer's laws say of its part, as the lemmas about its steps take it.
+-- A CPU over a layer of message calls, by what the layer's laws say of its part, as the lemmas
+-- about its steps take it.
 use Rattle.std.proofs.Common.{◌≡◌, ◌<◌, length, false, Some, None, ap, ◌∙◌, subst, refl, arith}
 use Rattle.layer_traits.specs.{Blocks.{Capacities.caps_in, QueueBlocks.homes_in}, contracts.call_layers.CallLayer.TheBound.Met}
 use Rattle.layer_traits.specs.{declared.call_layers.{CallLaw.Ghosts as LawGhosts, CallLayer.Ghosts}, Layers.BufferLaw.MovesGrow, Polling.Framed.Framed}
@@ -11,7 +12,8 @@ use borrow.Fn.World.{World}
 use denote.RattleType.{RattleType}
 use mir.Syntax.{Dict}
 
--- what always holds of a CPU whose part fits the machine; what names the whole state of a part is said of a layer whose polls are actions
+-- the invariant of a CPU whose part agrees with the machine; clauses on the whole state of a part
+-- are about a layer whose polls are actions
 pub record IsLayered {P L M : Type 0} (I : Ghosts P L M) (m : M) (p : Cpu P M) : Type 0 where
   pub number : I.cpu_of p.part ≡ p.number
   pub acts : I.ActsFor m (I.cpu_of p.part)
@@ -40,7 +42,7 @@ pub layered : {P L M : Type 0} {I : Ghosts P L M} (laws : PartLaws I) (m : M) (p
 layered {I} laws m p agrees = grind (arith, agrees)
 
 module _ {P L M : Type 0} {I : Ghosts P L M} {m : M} {p : Cpu P M} (at : IsLayered I m p) where
-  -- a thread that runs is at home with it
+  -- a running thread has this home CPU
   pub runs_home : (t : Tid) → (threads_in (I.own p.part)).current ≡ Some t → home_of (homes_in (I.opening m)) t ≡ Some p.number
   runs_home t runs = grind (arith, current_at)
 

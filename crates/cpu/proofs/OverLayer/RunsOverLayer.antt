@@ -1,4 +1,4 @@
--- A system over a layer of message calls, after steps of one of its CPUs, one behind the other.
+-- A system over a layer of message calls, after steps of one of its CPUs, one after the other.
 use Rattle.std.proofs.{lemmas.{Bool.ne_eqb, List.replicate-append-replicate, Option.{same_Some, slice_get-map, slice_get_within}}, Common.{◌≡◌, ℕ, ◌+◌, ◌<◌}}
 use Rattle.std.proofs.Common.{◌≤◌, List, [], ◌∷◌, ◌++◌, length, map, replicate, reverse, Some, None, slice_set, refl, ap, sym, ◌∙◌, subst, arith}
 use Rattle.std.specs.Prelude.{slice_get, Option}
@@ -29,14 +29,14 @@ module _ {P L M : Type 0} (I : Ghosts P L M) (laws : MachineLaws I) (owner : M �
     pub by_one : I.IsStepwise → SteppedByTable c (shows m cpus taken) (shows n (slice_set cpus k y) (taken + 1)) Stepped
     by_one = by_table I owner threads m n cpus room taken k c x y is at same step.leaves live (laws.legal n (I.cpu_of y.part) acts) step.steps
 
-    -- the order goes on by at most one call, of this CPU
+    -- the order grows by at most one call, of this CPU
     pub grows_one : OrderGrows c (reverse (I.seen m)) (reverse (I.seen n))
     grows_one =
         let number : x.number ≡ c = (is.each k x at).number_is ∙ ap (λ (j : ℕ). cpu_at j) same in
         order_grows (λ d. I.ActsFor m d) c (I.seen m) (I.seen n) is.acts_for (laws.known n (I.cpu_of y.part) acts)
         (subst (λ (d : CpuId). SeenGrows (λ a. I.ActsFor m a) d (I.seen m) (I.seen n)) number step.leaves.seen)
 
-    -- the calls go on
+    -- the order of calls grows
     pub calls_one : CallsGoOn c (shows m cpus taken) (shows n (slice_set cpus k y) (taken + 1))
     calls_one = record {
       order = grows_one;
@@ -92,7 +92,7 @@ module _ {P L M : Type 0} (I : Ghosts P L M) (laws : MachineLaws I) (owner : M �
             (leads_one n o amid (taken + steps) q r before.keeps there live step (shows m cpus taken) (replicate steps c) before.leads)));
       }
 
-  -- and then it looked so often, and each look missed
+  -- and then it polled the lock so often, and each poll failed
   pub spun_so : {m n o : M} {y : Cpu P M} {cpus : List (Cpu P M)} {taken steps looks : ℕ} → k < length cpus → WentSo m cpus taken steps n y
       → Spun I.Fits I.opening I.site I.seen I.room I.ActsFor I.MayHold looks n o → (I.IsStepwise → Misses (I.cpu_of y.part) looks (I.acts n) (I.acts o))
       → (looks ≡ 0 → o ≡ n) → (0 < looks → own_reason (shown_by I y) ≡ None) → taken + (steps + looks) ≤ room → WentSo m cpus taken (steps + looks) o y

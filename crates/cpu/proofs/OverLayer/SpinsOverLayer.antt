@@ -1,4 +1,4 @@
--- A system over a layer of message calls, after looks of one of its CPUs that all missed.
+-- A system over a layer of message calls, after polls of a lock by one of its CPUs that all failed.
 use Rattle.std.proofs.Common.{◌≡◌, ◌≢◌, ℕ, zero, suc, ◌+◌, ◌<◌, ◌≤◌, false, List, [], ◌∷◌, ◌++◌, length, map, replicate, reverse, Option, Some, None, refl, ap}
 use Rattle.std.{proofs.{Common.{sym, ◌∙◌, subst, arith}, lemmas.{Bool.ne_eqb, Option.slice_get_within}}, specs.Prelude.slice_get}
 use Rattle.layer_traits.specs.{Blocks.{Capacities.caps_in, QueueBlocks.homes_in}, declared.call_layers.CallLayer.Ghosts, Threads.OnePlace.cpu_at}
@@ -26,7 +26,8 @@ module _ {P L M : Type 0} (I : Ghosts P L M) (laws : MachineLaws I) (owner : M �
   abbrev shows : M → ℕ → Shown
   shows o done = shown_in (observed_by I owner o) (map (shown_by I) cpus) room done
 
-  -- CPU c, at number k, has a section under way, and so many looks of its part x took the machine from m to n
+  -- CPU c, at number k, has a section under way, and so many polls by its part x took the machine
+  -- from m to n
   module _ (k looks : ℕ) (c : CpuId) (x : Cpu P M) (is : Holds (works_by I owner threads) m cpus room taken) (at : slice_get cpus k ≡ Some x) (same : k ≡ c.0)
       (spun : Spun I.Fits I.opening I.site I.seen I.room I.ActsFor I.MayHold looks m n)
       (tries : I.IsStepwise → Misses (I.cpu_of x.part) looks (I.acts m) (I.acts n)) (still : looks ≡ 0 → n ≡ m)
@@ -44,7 +45,7 @@ module _ {P L M : Type 0} (I : Ghosts P L M) (laws : MachineLaws I) (owner : M �
     after : IsMoment (shows n (taken + looks))
     after = grind (arith, before)
 
-    -- the looks are steps of the schedule
+    -- the polls are steps of the schedule
     pub spins_lead : Leads I.IsStepwise (shows m taken) (replicate looks c) (shows n (taken + looks))
     spins_lead = go looks refl
       where

@@ -13,7 +13,7 @@ use Rattle.event_log.specs.{declared.ids.{TheConstants.CPUS, Tid.Tid, CpuId.CpuI
 abbrev pub shown_by : {P L M : Type 0} → Ghosts P L M → Cpu P M → CpuShown
 shown_by I x = cpu_shown (threads_in (I.own x.part)) x.guests.items x.trace.items x.limit (I.is_inside x.part) (I.own x.part)
 
--- what the machine tells, who owns its locks among it
+-- what the machine reports, including the owners of its locks
 abbrev pub observed_by : {P L M : Type 0} → Ghosts P L M → (M → BufId → Option Tid) → M → Observed
 observed_by I owner m = record {
   caps = caps_in (I.opening m);
@@ -80,7 +80,7 @@ module _ {P L M : Type 0} (I : Ghosts P L M) (owner : M → BufId → Option Tid
         ) at left.number left.cpu fits keeps table (λ z before step. rw left.opening (before step)) (λ z other there. left.others z.part other there) left.acts
         left.holders left.seen left.grows known (ap homes_in left.opening) (ap caps_in left.opening) left.room live
 
--- from what always holds of each CPU to what is shown of it
+-- from the invariant of each CPU to what is shown of it
 pub cpus_have : {P L M : Type 0} (I : Ghosts P L M) (m : M) (cpus : List (Cpu P M))
     → ((k : ℕ) (x : Cpu P M) → slice_get cpus k ≡ Some x
     → IsAt (λ y. I.Fits y.part m × (I.cpu_of y.part ≡ y.number) × IsCpuAt I m y × (I.IsStepwise → IsTabledAt I m y)) (λ y. y.number) k x)

@@ -1,5 +1,5 @@
--- Looks of one CPU that all missed: each is a step of the step table that leaves the CPU's private state, and so many of them are so many
--- steps of the system.
+-- Looks of one CPU that all missed: each is a step of the step table that leaves the CPU's private
+-- state, and so many of them are so many steps of the system.
 use Rattle.std.proofs.Common.{◌≡◌, ℕ, zero, suc, ◌+◌, ◌<◌, ◌≤◌, false, List, [], ◌∷◌, ◌++◌, replicate, Some, None, refl, ap, sym, ◌∙◌, subst, arith}
 use Rattle.std.{proofs.lemmas.Bool.ne_eqb, specs.Prelude.slice_get}
 use Rattle.event_log.specs.{declared.ids.{CpuId.CpuId, LockId.LockId}, Actions.{Action, Try, AreLegal}}
@@ -7,21 +7,21 @@ use Rattle.{layer_traits.specs.declared.steps.Step.TheVariants.Stepped, cpu.spec
 use Rattle.cpu.{specs.{Systems.own_reason, Table.Blocks.Name}, proofs.{ListFacts.ListReads.{set_again, shows_at}, WholeSystems.Moments.calls_stay}}
 use Rattle.cpu.proofs.StepTable.Schedules.{Leads, leads_live, leads_nowhere}
 
--- One look.
+-- One failed poll.
 
 -- the same, of two systems
 missed_one : (c : CpuId) (lock : LockId) (s r : Shown) (here : CpuShown) → slice_get s.cpus c.0 ≡ Some here → r.cpus ≡ s.cpus → r.room ≡ s.room
     → r.taken ≡ s.taken + 1 → r.log ≡ Try c lock false ∷ s.log → AreLegal r.log → s.taken < s.room → SteppedByTable c s r Stepped
 missed_one c lock s r here at cpus room taken log legal live setup for = grind (arith, ne_eqb, set_again, shows_at)
 
--- So many looks.
+-- Several failed polls.
 
--- the actions behind the newest
+-- the actions older than the newest
 abbrev behind : {N : Type 0} → List (Action N) → List (Action N)
 behind [] = []
 behind (a ∷ past) = past
 
--- the system after some of the looks
+-- the system after some of the polls
 abbrev amid : Shown → List (Action Name) → ℕ → Shown
 amid s log taken = record s { log = log; taken = taken }
 
@@ -35,7 +35,7 @@ replicate_end (suc n) x = ap (λ l. x ∷ l) (replicate_end n x)
 amid_moment : (s : Shown) (log : List (Action Name)) (taken : ℕ) → s.taken ≤ taken → IsMoment s → IsMoment (amid s log taken)
 amid_moment s log taken later now = grind arith
 
--- r is the system s after so many looks of CPU c, which has a section under way, and each look missed
+-- r is the system s after so many failed polls by CPU c, which has a section under way
 pub record AreMisses (IsStepwise : Type 0) (c : CpuId) (s : Shown) (looks : ℕ) (r : Shown) : Type 0 where
   pub cpus : r.cpus ≡ s.cpus
   pub room : r.room ≡ s.room

@@ -1,4 +1,5 @@
--- What a system tells is what the step table has: its blocks, by the actions of all CPUs, and each CPU's threads.
+-- What a system reports is what the step table has: its blocks, from the actions of all CPUs, and
+-- each CPU's threads.
 use Rattle.std.proofs.Common.{◌≡◌, inl, ℕ, ◌<◌, List, length, map, Option, Some, option_map, slice_index, refl, ap, sym, ◌∙◌, arith, subst, true}
 use Rattle.std.specs.Prelude.{slice_get}
 use Rattle.event_log.specs.{declared.ids.{BufId.BufId, CpuId.CpuId, LockId.{LockId, TheVariants.{Buffer as AtBuffer, Pending}}, Tid.Tid}, Actions.Action}
@@ -28,7 +29,7 @@ module _ (setup : Setup) (m : Observed) (c : CpuId) (opening : LockId → Option
   buffer_read : (b : BufId) → block_at setup (AtBuffer b) (named m.acts) ≡ option_map view (guarded opening m.acts (AtBuffer b))
   buffer_read b = block_read setup opening m.acts (AtBuffer b) (opens (AtBuffer b) tt ∙ ap (λ (l : List ℕ). opening_buffer (slice_get l b.0)) (sym caps_are))
 
-  -- a system over this machine tells its buffers as the table has them
+  -- a system over this machine reports its buffers as the table has them
   module _ (cpus : List CpuShown) (room taken : ℕ) (sound : SoundByTable (shown_in m cpus room taken)) (is : IsSetupFor setup (shown_in m cpus room taken))
       (owner_is : (b : BufId) → m.owner b ≡ owner_after opening m.acts b) where
     abbrev s : Shown

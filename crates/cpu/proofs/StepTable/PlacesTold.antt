@@ -1,4 +1,4 @@
--- The place that a system tells of a thread is where the thread stands in the table's own lists.
+-- The place that a system reports for a thread is the thread's place in the table's lists.
 use Rattle.std.proofs.{Common.{◌≡◌, ℕ, ◌<◌, true, List, length, Option, Some, ap, sym, ◌∙◌, subst, arith}, lemmas.{Bool.and_parts, List.length-map}}
 use Rattle.std.{proofs.lemmas.Option.same_Some, specs.Prelude.slice_get}
 use Rattle.layer_traits.specs.{Views.{OwnParts.threads_in, Observed.{IsOwnPlace, queue_place}}, declared.{calls.Place.Place, moves.WaitList.WaitList}}
@@ -14,13 +14,13 @@ use Rattle.cpu.proofs.{ListFacts.ListReads.{listed_there, shows_at, there_is}, T
 use Rattle.event_log.specs.declared.ids.LockId.TheVariants as lock
 use Rattle.layer_traits.specs.declared.calls.Place.TheVariants as place
 
--- a thread has ended in the table exactly where its part has it among those that have ended
+-- a thread has ended in the table exactly if its part has it among those that have ended
 pub ended_is : (own : Buffering) (guests : List (Option Guest)) (trace : List Entry) (t : Tid) → t.0 < length guests
     → (thread_at (private own guests trace) t).ended ≡ is_in t (threads_in own).ended
 ended_is own guests trace t within =
     ap (λ (x : Thread). x.ended) (thread_here own (guest_states guests) trace t (omega (arith, within, length-map guests guest_state_of)))
 
--- a thread that has ended with a CPU is at home with it
+-- a thread that has ended on a CPU has that home CPU
 ended_home : (homes : List CpuId) (c : CpuId) (moves : List Step) (own : Threads) → Stands homes c moves own → (t : Tid) → is_in t own.ended ≡ true
     → home_of homes t ≡ Some c
 ended_home homes c moves own stands t is = grind (arith, is_cpu_true, and_parts, in_counted)
@@ -29,7 +29,7 @@ module _ (s : Shown) (agree : MovesAgree s) (lines : BufId → WaitList → List
     (lists : WaitListsAgree (length s.caps) s.homes s.moves lines) (setup : Setup)
     (cpus : (k : ℕ) (p : CpuShown) → slice_get s.cpus k ≡ Some p → CpuIsObserved setup s k p)
     (buffers : (b : ℕ) → b < length s.caps → HasBuffer setup s b) (homes : setup.homes ≡ s.homes) where
-  -- who sleeps at a line of a buffer stands on the buffer's list of that line
+  -- a thread that sleeps in a wait list of a buffer is in the buffer's list of that name
   asleep : (t : Tid) (b : BufId) (line : WaitList) → where_is s.homes s.moves t ≡ Asleep (At (AtBuffer b) line)
       → (b.0 < length s.caps) × (is_in t (lines b line) ≡ true)
   asleep t b line here = grind (arith, wait_channel_here, counted_in)
@@ -41,7 +41,7 @@ module _ (s : Shown) (agree : MovesAgree s) (lines : BufId → WaitList → List
   cpu_has : (c : CpuId) (k : ℕ) (p : CpuShown) (Has : Private → Type 0) → c ≡ cpu_at k → slice_get s.cpus k ≡ Some p → Has p.private → CpuHas (whole_of s) c Has
   cpu_has c k p Has same there has = grind (arith, shows_at)
 
-  -- a thread that a CPU has of its own
+  -- a thread in a CPU's scheduling state
   own_so : (k : ℕ) (p : CpuShown) (t : Tid) (at : Place) → t.0 < length s.homes → slice_get s.cpus k ≡ Some p → IsOwnPlace (cpu_at k) p.own t at
       → IsPlaceByTable setup (whole_of s) t at
   own_so k p t (place.Running c) known there is = cpu_has c k p (λ q. q.current ≡ Some t) is.0 there ((cpus k p there).current ∙ is.1)
@@ -54,7 +54,7 @@ module _ (s : Shown) (agree : MovesAgree s) (lines : BufId → WaitList → List
       cpu_has (home_cpu setup t) k p (λ q. (thread_at q t).ended ≡ true) home there ((cpus k p there).ended t known ∙ is)
   own_so k p t at known there is = absurd is
 
-  -- a thread that stands in a queue
+  -- a thread that is in a queue
   queue_so : (t : Tid) (w : Where) (at : Place) → where_is s.homes s.moves t ≡ w → queue_place w ≡ Some at → IsPlaceByTable setup (whole_of s) t at
   queue_so t (IsPending c) at here is =
       let within = agree.within t c (pend_home s.homes s.moves t c agree.lawful here) in

@@ -11,7 +11,7 @@ use Rattle.cpu.proofs.Wakeups.ReadyCalls.{calls_return_alone}
 
 -- One setup for all states of a system.
 
--- what the elements at one index show, where the lists show the same
+-- what the elements at one index show, if the lists show the same
 same_shown : {X Y : Type 0} (f : X → Y) (xs ys : List X) (k : ℕ) (x y : X) → map f xs ≡ map f ys → slice_get xs k ≡ Some x → slice_get ys k ≡ Some y → f x ≡ f y
 same_shown f xs ys k x y same at there = same_Some (f x) (f y) (sym (shows_at f xs k x at) ∙ ap (λ l. slice_get l k) same ∙ shows_at f ys k y there)
 
@@ -56,7 +56,7 @@ reached_on c s r answer within same went reached setup is =
     subst (λ (n : ℕ). IsReached setup n (whole_of r)) (sym same.room)
     (subst (λ (w : Whole). IsReached setup s.room w) next (steps_once c (reached setup before) (omega (arith, before.count, within))))
 
--- what a machine tells
+-- what a machine reports
 pub record Observed : Type 0 where
   pub caps : List ℕ
   pub homes : List CpuId

@@ -1,4 +1,4 @@
--- Schedules: what the steps of a list of CPUs lead to, one behind the other.
+-- Schedules: what the steps of a list of CPUs lead to, one after the other.
 use Rattle.std.proofs.Common.{◌≡◌, ℕ, zero, suc, ◌+◌, ◌-◌, ◌<◌, ◌≤◌, List, [], ◌∷◌, ◌++◌, length, replicate, take, drop, Option, Some, None, true, is_some}
 use Rattle.std.proofs.{Common.{refl, ap, sym, ◌∙◌, subst, append_assoc, arith}, Math.Seq.take-add, lemmas.List.{append-nil, replicate-append-replicate}}
 use Rattle.std.{proofs.lemmas.List.{take-replicate, take-take, take_rest}, specs.Prelude.slice_index_or}
@@ -14,7 +14,7 @@ pub record Leads (IsStepwise : Type 0) (s : Shown) (schedule : List CpuId) (r : 
   pub ran : Ran IsStepwise s schedule r
   pub table : IsStepwise → RanByTable s schedule r
 
--- no step leads to where a system is
+-- no step leads to the system itself
 pub leads_nowhere : (IsStepwise : Type 0) (s : Shown) → Leads IsStepwise s [] s
 leads_nowhere IsStepwise s = record {
   plan = record { caps = refl; homes = refl; programs = refl; count = refl; limits = refl; room = refl };
@@ -59,7 +59,7 @@ after_both : (setup : Setup) (first second : List CpuId) (s : Whole) → after_s
 after_both setup [] second s = refl
 after_both setup (c ∷ first) second s = after_both setup first second (system_step setup c s).next
 
--- one schedule behind the other
+-- one schedule after the other
 pub leads_on : (IsStepwise : Type 0) (s r t : Shown) (first second : List CpuId) → Leads IsStepwise s first r → Leads IsStepwise r second t
     → Leads IsStepwise s (first ++ second) t
 leads_on IsStepwise s r t first second one two = record {
@@ -68,11 +68,11 @@ leads_on IsStepwise s r t first second one two = record {
   table = λ step setup for. grind (arith, goes_on, after_both);
 }
 
--- the front of what is left of a schedule stands behind what was taken of it
+-- the first steps of what is left of a schedule follow what was taken of it
 pub taken_on : (all : List CpuId) (at more : ℕ) → take at all ++ take more (take (length all - at) (drop at all)) ≡ take (at + more) all
 taken_on all at more = ap (λ (l : List CpuId). take at all ++ take more l) (take_rest all at) ∙ sym (take-add at more all)
 
--- more steps of one CPU behind those of it
+-- more steps of one CPU after its earlier ones
 pub leads_alone : (IsStepwise : Type 0) (s r t : Shown) (c : CpuId) (m n : ℕ) → Leads IsStepwise s (replicate m c) r → Leads IsStepwise r (replicate n c) t
     → Leads IsStepwise s (replicate (m + n) c) t
 leads_alone IsStepwise s r t c m n one two = rw (← replicate-append-replicate m n c) (leads_on IsStepwise s r t (replicate m c) (replicate n c) one two)
@@ -85,7 +85,7 @@ leads_resting IsStepwise c s (suc asked) within some halts =
     leads_on IsStepwise s s s (c ∷ []) (replicate asked c) (leads_halted IsStepwise c s within some halts)
     (leads_resting IsStepwise c s asked within some halts)
 
--- a step, and those behind it of the same CPU
+-- a step, and the following ones of the same CPU
 pub turn_taken : (all : List CpuId) (d : CpuId) (more : ℕ) → 0 < length all → BeginWith (slice_index_or all 0 d) more (take (length all - 1) (drop 1 all))
     → replicate (more + 1) (slice_index_or all 0 d) ≡ take (more + 1) all
 turn_taken [] d more some begins = absurd (omega (arith, some))

@@ -1,4 +1,5 @@
--- The clauses of a CPU's calls on the table, from those of the layer: its part tells its threads and its call states.
+-- The clauses of a CPU's calls on the table, from those of the layer: its part reports its threads
+-- and its call states.
 use Rattle.std.proofs.{Common.{◌≡◌, ◌<◌, ℕ, false, List, slice_get, Option, Some, None, IsSome, option_map, ap, sym, ◌∙◌, subst, arith}, lemmas.Bool.lt-ltb}
 use Rattle.cpu.proofs.{Tower.{Polls.{halts_exactly, look_is_step}, KeptByPasses.boots_part}, CpuSteps.CpuStates.{TabledCpu, Outset}}
 use Rattle.cpu.{proofs.StepTable.TableRows.halted_same, specs.{declared.guests.Guest.Guest, Guests.is_ended, Cpus.{cpu_halted_at, reason_in, step_answer}}}
@@ -15,7 +16,7 @@ pub hand_known : (homes : List CpuId) (c : CpuId) (moves : List Step) (own : Thr
     → (u : Tid) → own.hand ≡ Some u → IsSome (slice_get homes u.0)
 hand_known homes c moves own stands lawful u has = grind (arith, away_known, same_tid_self)
 
--- also where another machine has the same homes
+-- also if another machine has the same homes
 pub hand_preserved : (homes now : List CpuId) (c : CpuId) (moves : List Step) (own : Threads) → now ≡ homes → Stands now c moves own → AreMoves now moves
     → (u : Tid) → own.hand ≡ Some u → IsSome (slice_get homes u.0)
 hand_preserved homes now c moves own same stands lawful u has = subst (λ h. IsSome (slice_get h u.0)) same (hand_known now c moves own stands lawful u has)
@@ -27,7 +28,7 @@ pub fifo_follows : (ActsFor : CpuId → Type 0) (opening : LockId → Option Tow
     → Follows ActsFor tower opening number (fifo_plan homes number t c own) old new (record { own = own2; answer = result })
 fifo_follows ActsFor opening homes buffers part_of number t c own own2 old new result same within follows = grind (arith, lt-ltb)
 
--- what the table's step answers, by the CPU's own reason to take none
+-- the result of the table's step, given the CPU's reason to take none
 pub answers_step : (cpu : TabledCpu) (ActsFor : CpuId → Type 0) (old : List (Action TowerName)) (outset : Outset ActsFor cpu old) (setup : Setup)
     → IsSetupOf setup cpu.homes cpu.caps cpu.guests cpu.limit
     → (cpu_step setup cpu.number (private cpu.own cpu.guests cpu.trace) (named old)).answer
@@ -35,7 +36,7 @@ pub answers_step : (cpu : TabledCpu) (ActsFor : CpuId → Type 0) (old : List (A
 answers_step cpu ActsFor old outset setup of =
     grind (arith, outset.busy ∙ sym (ap is_in_section (phase_renamed name_of cpu.number old)), halted_same cpu setup of, halts_exactly)
 
--- a look
+-- a poll of a lock
 pub looked_steps : (ActsFor : CpuId → Type 0) (homes : List CpuId) (caps : List ℕ) (cpu number : CpuId) (limit : ℕ) (own own2 : Buffering)
     (guests : List (Option Guest)) (trace : List Entry) (old new : List (Action TowerName)) → cpu ≡ number → own2 ≡ own → Tries ActsFor cpu old new
     → WentByTable ActsFor homes caps number limit own own2 guests guests trace trace old new Stepped

@@ -1,4 +1,4 @@
--- A CPU of a system that takes no step: the table's system takes none, and answers the same.
+-- A CPU of a system that takes no step: the table's system takes none, and reports the same.
 use Rattle.std.proofs.Common.{◌≡◌, ◌<◌, ◌==◌, Bool, length, Option, Some, None, if◌then◌else◌, sym, ◌∙◌, arith}
 use Rattle.{event_log.specs.declared.ids.CpuId.CpuId, layer_traits.specs.declared.steps.{Reason.{Reason, TheVariants.StepsUsed}, Step.TheVariants.Halted}}
 use Rattle.cpu.{specs.{Claims.{CpuShown, Shown}, Systems.{HaltsByTable, SteppedByTable, halted_in, reason_of, reason_or}}, proofs.ListFacts.ListReads.shows_at}

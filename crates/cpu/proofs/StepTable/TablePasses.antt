@@ -1,4 +1,5 @@
--- A poll of a pass, and an instruction of a thread's own, are steps of the table, and the CPU stays as the table asks.
+-- A poll of a pass, and an instruction that shares nothing, are steps of the table, and the CPU
+-- stays as the table requires.
 use Rattle.std.proofs.Common.{◌≡◌, ℕ, ◌<◌, Bool, true, false, ◌||◌, List, [], ◌∷◌, ◌++◌, length, slice_get, slice_set, Option, Some, None, IsSome, option_map}
 use Rattle.std.proofs.{Common.{refl, ap, sym, ◌∙◌, subst, arith}, lemmas.List.map-set, Math.Bool.or-true}
 use Rattle.layer_traits.specs.{Views.OwnParts.threads_in, declared.{calls.Call.Call, passes.Pass.{Pass, TheVariants.{Switch, YieldNow, Drain, MakeReady, End}}}}
@@ -34,7 +35,7 @@ local_at setup c p t s i is = grind arith
 unbegun : (f : Call → TableCall) (call_state : CallState) → call_state.stage ≡ at_stage.Idle → option_map f (begun_of call_state) ≡ None
 unbegun f call_state at_idle = ap (λ s. option_map f (begun_of (record call_state { stage = s }))) at_idle
 
--- the states of the guests, where one guest changed
+-- the states of the guests after one guest changed
 states_changed : (guests : List (Option Guest)) (t : ℕ) (f : Guest → Guest) (g : Guest) → guest_at guests t ≡ Some g
     → guest_states (with_guest guests t f) ≡ slice_set (guest_states guests) t ((f g).thread)
 states_changed guests t f g at = grind (arith, map-set)
@@ -84,7 +85,7 @@ module _ (cpu : TabledCpu) where
       (in_no_call g (of_thread t.0 (of_cpu number seen)) (begun_of (call_state_of own.call_states t)) (call_state_of own.call_states t).effect todo
       (is.follow t g at).1 asks none).0
 
-  -- a thread in the hand is sent where nobody runs
+  -- a thread in the hand is sent while no thread runs
   sends_alone : (s t : Tid) (g : Guest) → (threads_in own).current ≡ Some t → (threads_in own).hand ≡ Some s → guest_at guests t.0 ≡ Some g
       → chosen (threads_in own) guests ≡ Passes (MakeReady s) → ⊥
   sends_alone s t g runs has at chose =
@@ -197,13 +198,13 @@ module _ (cpu : TabledCpu) where
           (record { own = own2; answer = result }) known_so
           (rw of.homes_are follows))
 
-      -- a pass that is done alone
+      -- a pass that touches nothing shared
       by_alone : is_in_section (phase number old) ≡ false → new ≡ old → choice setup number p ≡ Alone (private own2 guests2 trace) → Goal
       by_alone outside same chosen_alone =
           subst (λ l. IsStep ActsFor (cpu_step setup number) p (private own2 guests2 trace) (named old) (named l) Stepped) (sym same) (alone_is_step ActsFor
           setup number p (private own2 guests2 trace) (named old) (ap is_in_section (phase_renamed name_of number old) ∙ outside) chosen_alone)
 
-      -- where nobody runs, the guests stay
+      -- while no thread runs, the guests stay
       idle_guests : (threads_in own).current ≡ None → private own2 guests trace ≡ private own2 guests2 trace
       idle_guests runs = grind (arith, guests_are)
 
@@ -331,7 +332,7 @@ module _ (cpu : TabledCpu) where
               end_step t g runs has at (not_calling t g Finish at asks (λ c e. absurd (cc e))) same asks done.0
               (ap (λ (l : Left Buffering (Unit {0})). l.own) done.1) tt (ap (λ (l : Left Buffering (Unit {0})). l.answer) done.1)
 
-  -- An instruction of the thread's own.
+  -- An instruction that shares nothing.
 
   module _ (t : Tid) (chose : chosen (threads_in own) guests ≡ Computes t) where
     abbrev does : ((threads_in own).current ≡ Some t) × ((g : Guest) × (guest_at guests t.0 ≡ Some g) × (todo_of g ≡ Compute))
@@ -369,7 +370,7 @@ module _ (cpu : TabledCpu) where
         idle : (d : Option UnderWay) → under_way ≡ d → under_way ≡ None
         idle d none = grind arith
 
-  -- A CPU that is halted, and a look.
+  -- A CPU that is halted, and a poll of a lock.
 
   pub halted_steps : (ActsFor : CpuId → Type 0) (old : List (Action TowerName)) (setup : Setup) (of : IsSetupOf setup homes caps guests limit) (inside : Bool)
       (reason : Reason) → inside ≡ is_in_section (phase number old) → reason_in inside (cpu_halted_at (threads_in own) guests trace limit) ≡ Some reason

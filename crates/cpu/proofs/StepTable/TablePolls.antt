@@ -1,4 +1,4 @@
--- A poll of a call is a step of the table, and the CPU stays as the table asks.
+-- A poll of a call is a step of the table, and the CPU stays as the table requires.
 use Rattle.std.proofs.Common.{◌≡◌, ◌≢◌, ◌⊎◌, inl, inr, ℕ, ◌<◌, Bool, true, false, List, ◌++◌, length, slice_get, slice_set, Option, Some, None, IsSome}
 use Rattle.std.proofs.{Common.{option_map, ap, sym, ◌∙◌, subst, arith}, lemmas.List.{append-nil, length-set, map-set}}
 use Rattle.layer_traits.specs.{Views.OwnParts.threads_in, declared.{calls.{Call.Call, Effect.Effect, Reply.Reply}, passes.Pass.Pass, steps.Reason.Reason}}
@@ -23,11 +23,11 @@ pub opens_as : (setup : Setup) (homes : List CpuId) (caps : List ℕ) (number : 
     → setup.caps ≡ caps → OpensAs (bare homes caps) number opening → OpensAs setup number opening
 opens_as setup homes caps number opening homes_are caps_are opens lock used = opens lock (grind (arith, used)) ∙ (grind arith)
 
--- what an instruction asks for
+-- what an instruction requests
 asks_for : (i : Instruction) (s : State) (c : Call) → todo_at s i ≡ Calls c → AsksFor i s c
 asks_for line s c is = grind arith
 
--- a call state inside a call goes on as it is
+-- a call state inside a call continues as it is
 goes_same : (s : Stage) (call_state : CallState) (c : Call) → (s ≡ at_stage.Idle → ⊥) → going_at s call_state c ≡ call_state
 goes_same s call_state c calls = grind arith
 
@@ -36,7 +36,7 @@ trace_by : (c : CpuId) (t : Tid) (b : BufId) (trace : List Entry) (stage : Guest
     → trace ++ entries_of c t b (fresh_effect stage after) ≡ trace_after c t b before after trace
 trace_by c t b trace stage program s es begun effect before after follows is = grind (arith, append-nil)
 
--- where a CPU is live and no section is under way, it is not halted
+-- if a CPU is live and no section is under way, it is not halted
 pub not_halted_so : (inside b : Bool) (h : Option Reason) → inside ≡ b → reason_in inside h ≡ None → b ≡ false → h ≡ None
 not_halted_so inside b h same live outside = ap (λ x. reason_in x h) (sym outside ∙ sym same) ∙ live
 
@@ -58,7 +58,7 @@ pub record TabledPoll (ActsFor : CpuId → Type 0) (cpu : TabledCpu) (t : Tid) (
 module _ (cpu : TabledCpu) where
   open cpu use {homes, caps, seen, own, under_way, number, guests, trace, limit, opening, is, tabled, home}
 
-  -- one thread's guest goes on
+  -- one thread's guest continues
   pub tabled_with : (t : Tid) (g : Guest) (f : Guest → Guest) (own2 : Buffering) (under_way2 : Option UnderWay) → guest_at guests t.0 ≡ Some g → IsPart own2
       → (is_ended (f g).stage ≡ true → is_in t (threads_in own2).ended ≡ true)
       → ((u : Tid) → u.0 ≢ t.0 → is_in u (threads_in own).ended ≡ true → is_in u (threads_in own2).ended ≡ true)

@@ -1,4 +1,4 @@
--- A system is quiet exactly where the step table has it quiet; and where it is quiet it is still.
+-- A system is quiet exactly if the step table's state is; and if it is quiet, it is still.
 use Rattle.std.proofs.Common.{◌≡◌, ℕ, suc, ◌+◌, ◌<◌, Bool, true, false, not, ◌&&◌, List, [], ◌∷◌, length, map, Option, Some, None, is_some, refl, ap, sym, ◌∙◌}
 use Rattle.std.{proofs.{Common.{subst, arith}, lemmas.{Bool.and_parts, Option.slice_get_within}}, specs.Prelude.{slice_get, if◌then◌else◌}}
 use Rattle.event_log.{specs.{declared.ids.{CpuId.CpuId, Tid.Tid}, History.same_cpu}, proofs.Same.{same_cpu_self, same_cpu_true}}
@@ -12,7 +12,7 @@ use Rattle.layer_traits.specs.declared.calls.Place.TheVariants as place
 
 -- Whether all home threads of a CPU have ended.
 
--- a thread at home on c, where all of these threads have ended
+-- a thread with home CPU c, if all of these threads have ended
 pub ended_at : (p : Private) (c : CpuId) (homes : List CpuId) (i k : ℕ) (h : CpuId) → slice_get homes k ≡ Some h → same_cpu h c ≡ true
     → have_ended p (home_threads_from c homes i) ≡ true → (thread_at p (record { 0 = i + k })).ended ≡ true
 ended_at p c (home ∷ homes) i (suc k) h at same all =
@@ -24,7 +24,7 @@ ended_at p c (home ∷ homes) i (suc k) h at same all =
     by_test b now = grind (arith, and_parts)
 ended_at p c homes i k h at same all = grind (arith, and_parts)
 
--- and the other way round
+-- and the converse
 all_ended : (p : Private) (c : CpuId) (homes : List CpuId) (i : ℕ)
     → ((k : ℕ) (h : CpuId) → slice_get homes k ≡ Some h → same_cpu h c ≡ true → (thread_at p (record { 0 = i + k })).ended ≡ true)
     → have_ended p (home_threads_from c homes i) ≡ true
@@ -44,7 +44,7 @@ all_ended p c (home ∷ homes) i each =
 
 -- Why a CPU of the table is halted.
 
--- a CPU with a thread that goes on is never halted since each has ended
+-- a CPU with a thread that continues is never halted because each has ended
 never_all : (setup : Setup) (c : CpuId) (p : Private) (current : Option Tid) → halted_by (at_current setup c p current) ≡ Some AllEnded → ⊥
 never_all setup c p current is = grind arith
 

@@ -21,7 +21,7 @@ pub states_long : (guests : List (Option Guest)) → length (guest_states guests
 states_long [] = refl
 states_long (o ∷ guests) = let rec = states_long guests in omega (arith, rec)
 
--- A thread's row: at home here it has a guest and agrees with it, elsewhere it has none.
+-- A thread's row: on its home CPU it has a guest and agrees with it, on any other it has none.
 
 pub record Row (c : CpuId) (p : Private) (t : Tid) (home : CpuId) (o : Option Guest) : Type 0 where
   pub mine : same_cpu home c ≡ true
@@ -40,7 +40,7 @@ row_first : (c : CpuId) (p : Private) (h : CpuId) (homes : List CpuId) (o : Opti
     → Rows c p (h ∷ homes) (o ∷ guests) n → Row c p (tid n) h o
 row_first c p h homes o guests n rows = let e : n + 0 ≡ n = omega arith in subst (λ m. Row c p (tid m) h o) e (rows 0 h refl)
 
--- all have ended where all are over, and as many calls are open as have begun
+-- all have ended if all are over, and as many calls are open as have begun
 rows_told : (c : CpuId) (p : Private) (homes : List CpuId) (guests : List (Option Guest)) (n : ℕ) → length guests ≡ length homes → Rows c p homes guests n
     → (have_ended p (home_threads_from c homes n) ≡ list_all is_over guests) × (open_calls p (home_threads_from c homes n) ≡ begun_count guests)
 rows_told c p [] [] n long rows = (refl, refl)
@@ -113,7 +113,7 @@ module _ (cpu : TabledCpu) where
     all_open : open_calls p (home_threads setup number) ≡ begun_count guests
     all_open = ap (λ l. open_calls p (home_threads_from number l 0)) of.homes_are ∙ (rows_told number p homes guests 0 tabled.size row).1
 
-    -- the instruction at which a thread stands
+    -- the instruction at which a thread is
     pub stands_there : (t : Tid) (g : Guest) → guest_at guests t.0 ≡ Some g → stands_at setup p t ≡ next_of g.program g.thread
     stands_there t g at = (λ i. next_of (of.programs_are t g at i) (guest_there own guests trace t g at i).guest)
 

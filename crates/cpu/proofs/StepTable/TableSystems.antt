@@ -6,13 +6,13 @@ use Rattle.{event_log.proofs.{Foreign.cpus_of_actions_known, Same.same_cpu_self}
 use Rattle.{layer_traits.specs.Polling.Along.IsStep, cpu.specs.Table.{Blocks.Name, Setups.{Setup, Private}, Steps.{Stepping, cpu_step, system_step}}}
 use Rattle.cpu.{specs.{Tower.{Composed.named, Views.TowerName}, Claims.CpuShown}, proofs.ListFacts.ListReads.{all_left, all_right, shows_at}}
 
--- where the holder acts for each CPU that there may be, no action is foreign
+-- if the holder acts for each CPU that may exist, no action is the environment's
 none_else : {N : Type 0} (ActsFor : CpuId → Type 0) (others : List (Action N)) → ((c : CpuId) → c.0 < CPUS → ActsFor c)
     → AllByRecursion (λ a. (cpu_of_action a).0 < CPUS) others → AreForeign ActsFor cpu_of_action others → others ≡ []
 none_else ActsFor [] all known foreign = refl
 none_else ActsFor (a ∷ others) all known foreign = absurd (cc ((foreign (cpu_of_action a) (all (cpu_of_action a) known.0)).0, same_cpu_self (cpu_of_action a)))
 
--- who acts is a CPU that there may be, by whatever name
+-- every action, under either name, is of a CPU that may exist
 renamed_known : (acts : List (Action TowerName)) → IsLawful (λ before a. (cpu_of_action a).0 < CPUS) acts
     → AllByRecursion (λ a. (cpu_of_action a).0 < CPUS) (named acts)
 renamed_known [] lawful = tt
@@ -22,7 +22,7 @@ renamed_known (a ∷ past) lawful = let before = renamed_known past lawful.1 in 
 abbrev left : List Private → List (Action Name) → ℕ → ℕ → Stepping
 left cpus log room taken = record { next = record { cpus = cpus; log = log; room = room; taken = taken }; answer = Stepped }
 
--- a CPU's step by the table is the system's
+-- a CPU's step according to the table is the system's
 table_step : (ActsFor : CpuId → Type 0) (setup : Setup) (c : CpuId) (cpus : List Private) (log log2 : List (Action Name)) (room taken : ℕ) (p q : Private)
     → slice_get cpus c.0 ≡ Some p → IsStep ActsFor (cpu_step setup c) p q log log2 Stepped → ((d : CpuId) → d.0 < CPUS → ActsFor d)
     → AllByRecursion (λ a. (cpu_of_action a).0 < CPUS) log2 → taken ≢ room

@@ -1,5 +1,5 @@
--- Each poll of a call is a step of the table: of one that goes on, and of one that begins, where the call begins and its caller takes its
--- place at the lock in one step.
+-- Each poll of a call is a step of the table: of one that continues, and of one that begins, in
+-- which the call begins and its caller takes its ticket at the lock in one step.
 use Rattle.std.proofs.Common.{◌≡◌, ◌+◌, ◌<◌, false, List, length, Some, None, option_map, refl, ap, sym, ◌∙◌, subst, arith}
 use Rattle.layer_traits.specs.{Views.OwnParts.threads_in, declared.{calls.{Call.Call, Reply.Reply}, steps.Step.TheVariants.Stepped}}
 use Rattle.layer_traits.specs.{declared.call_states.{CallState.CallState, Stage.TheVariants.{Idle, Acquires}}, Polling.{Along.IsStep, Plans.{Left, Follows}}}
@@ -21,7 +21,8 @@ thread_here own guests trace t within =
 module _ (polled : Polled) (own : Buffering) (guests : List State) (trace : List Entry) (t : Tid) (call : Call) (got : Left Buffering Reply) where
   open polled use {ActsFor, setup, opening, c, old, new}
 
-  -- the poll of this call that left this is a step of the table, from a part that is the CPU's before it
+  -- the poll of this call that left this is a step of the table, from a part that is the CPU's
+  -- before it
   abbrev pub IsStepFrom : Buffering → Type 0
   IsStepFrom o =
       Follows ActsFor tower opening c (fifo_plan setup.homes c t call o) old new got

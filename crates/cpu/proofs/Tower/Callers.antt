@@ -1,10 +1,12 @@
--- A thread that runs on a CPU, and the call that it is in: what the lemmas on a poll's plan are told of.
+-- A thread that runs on a CPU, and the call that it is in: the arguments of the lemmas on a poll's
+-- plan.
 use Rattle.std.proofs.{Common.{◌≡◌, ℕ, ◌<◌, List, length, slice_set, Option, Some, None, sym, subst}, lemmas.List.length-set}
 use Rattle.layer_traits.specs.{Views.OwnParts.threads_in, declared.{calls.{Call.Call, Effect.Effect}, call_states.{Stage.Stage, CallState.CallState}}}
 use Rattle.{layer_traits.specs.Layers.{BufferLaw.Buffering, QLockLaw.slept_for}, event_log.specs.declared.{entries.Entry.Entry, ids.{BufId.BufId, CpuId.CpuId}}}
 use Rattle.{event_log.specs.declared.ids.Tid.Tid, guest.specs.State.State, cpu.specs.Table.Setups.Setup}
 
--- thread t runs: the CPU's part but for its hand and the answer that it keeps, and the guests, where the thread has a call state and a guest
+-- thread t runs: the CPU's part except its hand and the result that it keeps, and the guests, in
+-- which the thread has a call state and a guest
 pub record Runner : Type 0 where
   pub t : Tid
   pub ready : List Tid
@@ -73,7 +75,7 @@ awake caller is_slept is_waits = record { caller = caller; is_slept = is_slept; 
 abbrev pub call_state_at : Caller → Stage → Option Effect → CallState
 call_state_at caller stage effect = record { stage = stage; call = Some caller.call; position = caller.position; effect = effect }
 
--- the caller at this stage, with what the poll left of where threads sleep and wait
+-- the caller at this stage, after the poll changed where threads sleep and wait
 abbrev pub at_next : (caller : Caller) (slept2 waits2 : List (Option BufId)) (stage : Stage) → caller.t.0 < length slept2 → caller.t.0 < length waits2 → Caller
 at_next caller slept2 waits2 stage long_slept long_waits = record caller {
   runner = record caller.runner {

@@ -1,5 +1,5 @@
--- The plan of a begun call is a line of the table: where its caller neither slept nor waited; and where it did, the poll goes on with the
--- next section.
+-- The plan of a begun call is a row of the table if its caller neither slept nor waited; if it did,
+-- the poll continues with the next section.
 use Rattle.std.proofs.Common.{◌≡◌, ◌≢◌, ℕ, ◌<◌, false, ◌&&◌, List, get_or, slice_set, Option, Some, None, is_some, refl, ap, sym, ◌∙◌, subst, arith}
 use Rattle.std.proofs.lemmas.{Bool.ne_eqb, List.{get_or-set_same, get_or-set_other, length-set, set-get_or}}
 use Rattle.{thread_blocks.{proofs.Members.same_tid_self, specs.Queues.is_in}, event_log.specs.declared.{entries.Entry.Entry, ids.{BufId.BufId, CpuId.CpuId}}}
@@ -17,7 +17,7 @@ abbrev pub LineOf : Setup → CpuId → Tid → TowerCall → Buffering → List
 LineOf setup c t call own guests trace =
     IsLine setup c (private_of own guests trace) (fifo_plan setup.homes c t call own) (private_after setup c t call own guests trace)
 
--- a list in which an element is put that stands there
+-- a list in which an element is written over itself
 pub put_same : {X : Type 0} (xs : List X) (n : ℕ) (x d : X) → get_or xs n d ≡ x → xs ≡ slice_set xs n x
 put_same xs n x d is = sym (set-get_or xs n d) ∙ ap (slice_set xs n) is
 
@@ -34,7 +34,7 @@ module _ (runner : Runner) (hand : Option Tid) (deferred : Option TowerOut) (tra
       (put_same guests t.0 (state_at guests t) at_start refl i) trace)
       ∙ runner_goes runner hand deferred hand ready deferred call_state (state_at guests t) trace s w is_s is_w
 
--- the plan of a poll, where the call state is this
+-- the plan of a poll, given this call state
 pub fifo_at : (setup : Setup) (c : CpuId) (t : Tid) (call : TowerCall) (own : Buffering) (call_state : CallState) → call_state_of own.call_states t ≡ call_state
     → fifo_plan setup.homes c t call own ≡ plan_at setup.homes c t call (going call_state call).stage (going call_state call) own
 fifo_at setup c t call own call_state is = ap (λ x. plan_at setup.homes c t call (going x call).stage (going x call) own) is
@@ -94,14 +94,14 @@ module _ (caller : Caller) where
       ∙ (ap (λ x. parts (Some t) ready None (slice_set (threads_at was guests) t.0 x) trace) same
       ∙ sym (private_here runner None None trace (so stage) s w is is_s is_w)))
 
-  -- a line of the state to which the poll went on is one of the state from which it came
+  -- a row of the state at which the poll continued is one of the state from which it started
   chained_line : (stage next : Stage) (own2 : Buffering) → call_state_of call_states t ≡ so stage → call_state_of own2.call_states t ≡ so next
       → (going (so stage) call).effect ≡ None → (going (so next) call).effect ≡ None
       → private_of own2 guests trace ≡ private_of was guests trace → fifo_plan setup.homes c t call was ≡ fifo_plan setup.homes c t call own2
       → LineOf setup c t call own2 guests trace → LineOf setup c t call was guests trace
   chained_line stage next own2 is is2 none none2 private plan line = grind arith
 
-  -- the thread was handed the lock, or was woken, and stands at the next stage
+  -- the thread was handed the lock, or was woken, and is at the next stage
   abbrev pub handed_own : Stage → Buffering
   handed_own next = then_own (slice_set slept t.0 None) waits next
 
@@ -127,7 +127,7 @@ module _ (caller : Caller) where
       → fifo_plan setup.homes c t call was ≡ fifo_plan setup.homes c t call (handed_own Tries)
   handed_again_plan b is s w = grind (arith, fifo_at, now_call_state)
 
-  -- the plan of a thread that was woken is to ask for the lock again
+  -- the plan of a thread that was woken acquires the lock again
   pub woken_plan : (b : BufId) → call_state_of call_states t ≡ so Waits → slept_for slept t ≡ None → slept_for waits t ≡ Some b
       → fifo_plan setup.homes c t call was ≡ fifo_plan setup.homes c t call (woken_own AcquiresAgain)
   woken_plan b is s w = grind (arith, fifo_at, now_call_state)

@@ -26,7 +26,7 @@ numbered_same f g n (x ∷ guests) same =
     let more = numbered_same f g (n + 1) guests (λ j y below. same j y (omega (arith, below))) in
     λ i. (same n x (omega arith)) i ∷ more i
 
--- where one guest and its thread changed, the others stay
+-- after one guest and its thread changed, the others stay
 pub numbered_changed : (f g : ℕ → State → Thread) (n k m : ℕ) (guests : List State) (s : State) → m ≡ n + k → ((j : ℕ) (x : State) → j ≢ m → g j x ≡ f j x)
     → k < length guests → threads_numbered g n (slice_set guests k s) ≡ slice_set (threads_numbered f n guests) k (g m s)
 numbered_changed f g n k m [] s is other within = absurd (omega (arith, within))
@@ -37,7 +37,7 @@ numbered_changed f g n (suc k) m (x ∷ guests) s is other within =
     let more = numbered_changed f g (n + 1) k m guests s at other below in
     λ i. (other n x (λ same. omega (arith, same, is))) i ∷ more i
 
--- a part's own state by its pieces
+-- a part's private state by its fields
 abbrev pub own_at : (current hand : Option Tid) (ready ended : List Tid) (deferred : Option TowerOut) (slept waits : List (Option BufId))
     (call_states : List CallState) → Buffering
 own_at current hand ready ended deferred slept waits call_states = record {
@@ -68,7 +68,7 @@ module _ (runner : Runner) (hand : Option Tid) (deferred : Option TowerOut) wher
   abbrev before : Buffering
   before = part_at runner hand deferred
 
-  -- thread t runs or nobody does: its call state, guest and where it sleeps or waits changed
+  -- thread t runs, or none does: its call state, guest and where it sleeps or waits changed
   pub changed : (current2 hand2 : Option Tid) (ready2 : List Tid) (deferred2 : Option TowerOut) (slept2 waits2 : List (Option BufId)) (call_state : CallState)
       (guest : State) (trace : List Entry) (s w : Option BufId) (k : Bool) → ((j : ℕ) → j ≢ t.0 → (is_thread (tid j) current2 && is_some deferred2) ≡ false)
       → ((j : ℕ) → j ≢ t.0 → slept_for slept2 (tid j) ≡ slept_for slept (tid j)) → ((j : ℕ) → j ≢ t.0 → slept_for waits2 (tid j) ≡ slept_for waits (tid j))

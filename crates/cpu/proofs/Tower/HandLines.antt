@@ -1,4 +1,5 @@
--- The plan of a begun call is a line of the table, where a thread that its section woke is in the hand: it is put among its home's pending.
+-- The plan of a begun call is a row of the table while a thread that its section woke is in the
+-- hand: the thread is appended to its home CPU's pending threads.
 use Rattle.std.proofs.Common.{◌≡◌, inr, ◌<◌, Bool, true, false, List, length, slice_get, slice_set, Option, Some, None, IsSome, refl, ap, sym, ◌∙◌, subst}
 use Rattle.std.proofs.{Common.arith, lemmas.List.get_or-set_same}
 use Rattle.{event_log.specs.declared.ids.{LockId.TheVariants.Pending, Tid.Tid}, guest.specs.State.State, thread_blocks.specs.Queues.is_in}
@@ -48,7 +49,7 @@ module _ (site : Site) (u : Tid) (f : Effect) (known : IsSome (slice_get site.se
   abbrev after : TowerOut → Left Buffering Reply → Private
   after outcome left = private_after setup c t call (own_with outcome) guests trace left
 
-  -- a section that woke thread u: its plan is to send u, and then the call is so
+  -- a section that woke thread u: its plan sends u, and then the call is so
   pub record Sends (out : TowerOut) (stage : Stage) (state2 : CallState) (answer : Option Reply) : Type 0 where
     pub stands : CallStands stage (Some u) (Some out) None None (Some f)
     pub plan : plan_at setup.homes c t call stage (here stage) (own_with out) ≡ sends out stage (section_at t call stage)
@@ -74,7 +75,7 @@ module _ (site : Site) (u : Tid) (f : Effect) (known : IsSome (slice_get site.se
   sends_released = record { stands = has_released u f; plan = beneath_at (woken_outcome (lock.Released cv.Left) u) Releases refl; still = refl; done = refl }
 
   module _ (out : TowerOut) (stage : Stage) (is : call_state_of call_states t ≡ here stage) where
-    -- the poll leaves the hand empty, and the call goes on or returns
+    -- the poll leaves the hand empty, and the call continues or returns
     sent : (going (call_state_of call_states t) call).effect ≡ Some f → (state2 : CallState) (answer : Option Reply)
         → after out (record { own = own_at (Some t) None ready ended None slept waits (slice_set call_states t.0 state2); answer = answer })
         ≡ parts (Some t) ready None (slice_set (threads out) t.0 (thread_from state2 None None false e (guest_by site answer)))
@@ -108,7 +109,7 @@ module _ (site : Site) (u : Tid) (f : Effect) (known : IsSome (slice_get site.se
       gives = λ x kind hand. ap (after out) sends_u.done ∙ (sent (had_at site stage (Some f) sends_u.stands is) state2 answer ∙ gives);
     }
 
-    -- the call goes on
+    -- the call continues
     signalled_line : (next : Stage) → Sends out stage (here next) None → thread_from (here stage) None None true e g ≡ in_call out next
         → thread_from (here next) None None false e g ≡ in_call out next
         → ((p : Private) → returned_at setup p t (call_from call position (Some f) next) next ≡ p) → LineOf setup c t call (own_with out) guests trace

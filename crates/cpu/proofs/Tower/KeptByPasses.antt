@@ -1,4 +1,5 @@
--- How all threads stand to a part is kept by the passes from thread to thread, and holds at boot.
+-- The states of all threads in a part stay allowed under the passes (scheduling operations), and
+-- are so at boot.
 use Rattle.std.proofs.{Common.{◌≡◌, ℕ, zero, suc, List, length, replicate, Option, Some, None, refl, sym, ◌∙◌, arith}, lemmas.Bool.{cases_eq, ne_eqb}}
 use Rattle.layer_traits.specs.{Views.OwnParts.threads_in, declared.{calls.Effect.Effect, passes.Pass.Pass, call_states.Stage.Stage}, Threads.Passes.pass_after}
 use Rattle.{layer_traits.specs.{Threads.Places.Threads, Layers.BufferLaw.{Buffering, buffering_at_start, no_call}}, event_log.specs.declared.ids.BufId.BufId}
@@ -17,7 +18,7 @@ with_threads own threads = record {
   call_states = own.call_states;
 }
 
--- A thread with nobody in the hand has no answer kept.
+-- A thread has no kept result while the hand is empty.
 
 pub deferred_none : (stage : Stage) (hand : Option Tid) (deferred : Option TowerOut) (s w : Option BufId) (effect : Option Effect)
     → MayStand stage hand deferred s w effect → hand ≡ None → deferred ≡ None
@@ -27,7 +28,7 @@ stands_calls : (stage : Stage) (hand : Option Tid) (deferred : Option TowerOut) 
     → CallStands stage hand deferred s w effect → stage ≡ at.Idle → ⊥
 stands_calls stage hand deferred s w effect given is = grind arith
 
--- a thread in no call neither sleeps nor waits, and nobody is in the hand
+-- a thread in no call neither sleeps nor waits, and the hand is empty
 pub record AtRest (h : Option Tid) (k : Option TowerOut) (s w : Option BufId) : Type 0 where
   pub hand : h ≡ None
   pub deferred : k ≡ None
@@ -40,7 +41,7 @@ at_rest stage hand deferred s w effect given is = grind (arith, stands_calls)
 
 -- The passes.
 
--- where a pass may come: nobody runs, or a thread does and nobody is in the hand
+-- when a pass may occur: no thread runs, or a thread runs and the hand is empty
 abbrev pub ComesTo : Pass → Threads → Type 0
 ComesTo pass.Switch own = (own.current ≡ None) × (own.hand ≡ None)
 ComesTo pass.YieldNow own = (t : Tid) × (own.current ≡ Some t) × (own.hand ≡ None)

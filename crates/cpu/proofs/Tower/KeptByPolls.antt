@@ -1,4 +1,4 @@
--- How all threads stand to a part is kept by every poll of a call.
+-- The states of all threads in a part stay allowed under every poll of a call.
 use Rattle.std.proofs.Common.{◌≡◌, inr, ◌<◌, List, [], length, slice_get, slice_set, Option, Some, None, IsSome, option_map, refl, ap, sym, ◌∙◌, subst, arith}
 use Rattle.std.proofs.lemmas.{List.{get_or-set_other, length-set}, Bool.ne_eqb}
 use Rattle.layer_traits.specs.{Views.OwnParts.threads_in, declared.{calls.{Call.Call as TowerCall, Effect.Effect, Reply.Reply}, call_states.Stage.Stage}}
@@ -37,7 +37,7 @@ module _ (caller : Caller) (others : Rest caller.t caller.slept caller.waits cal
   abbrev Keeps : Buffering → Type 0
   Keeps o = PlanPreserves setup c (fifo_plan setup.homes c t call o)
 
-  -- the thread was handed the lock, or was woken, and goes on with the next stage
+  -- the thread was handed the lock, or was woken, and continues with the next stage
   handed_keeps : (next : Stage) → CallStands next None None None None None → FitsStage next (Some call) → slept_for waiting t ≡ None
       → fifo_plan setup.homes c t call (pieces None None slept waiting call_states) ≡ fifo_plan setup.homes c t call (handed_own caller next)
       → Keeps (pieces None None slept waiting call_states)

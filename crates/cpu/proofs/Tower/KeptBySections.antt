@@ -1,4 +1,5 @@
--- How all threads stand to a part is kept by each section of a call, where nobody is in the hand.
+-- The states of all threads in a part stay allowed under each section of a call, while the hand is
+-- empty.
 use Rattle.std.proofs.Common.{◌≡◌, ◌≢◌, ◌⊎◌, inl, inr, ℕ, Bool, true, false, List, [], ◌∷◌, ◌++◌, length, slice_get, slice_set, Option, Some, None, refl, sym}
 use Rattle.std.proofs.{Common.{subst, arith}, lemmas.{List.{get_or-set_same, get_or-set_other, length-set}, Bool.{cases_eq, eqb-false}}}
 use Rattle.event_log.specs.declared.ids.{BufId.BufId, CpuId.CpuId, LockId.{TheVariants.Buffer, LockId}, Tid.Tid, TheConstants.THREADS}
@@ -17,7 +18,7 @@ use Rattle.layer_traits.specs.declared.queue_edits.QueueEdit.TheVariants as queu
 use Rattle.layer_traits.specs.declared.call_states.Stage.TheVariants as at
 use Rattle.layer_traits.specs.declared.queue_edits.QueueBlock.TheVariants as block
 
--- the threads but this one stand as they may, and the tables have a place for each thread
+-- the threads except this one are in allowed states, and the tables have a place for each thread
 pub record Rest (t : Tid) (slept waits : List (Option BufId)) (call_states : List CallState) : Type 0 where
   pub others : (u : Tid) → u.0 ≢ t.0 → MayStand (call_state_of call_states u).stage None None (slept_for slept u) (slept_for waits u)
       (call_state_of call_states u).effect
@@ -38,7 +39,7 @@ module _ (t : Tid) (ready ended : List Tid) (slept waits : List (Option BufId)) 
       → IsPart (own_at (Some t) hand ready ended deferred slept waits call_states)
   runs_part hand deferred may = grind (arith, others, eqb-false, cases_eq)
 
-  -- nobody runs
+  -- no thread runs
   pub gone_part : (hand : Option Tid) → MayStand (call_state_of call_states t).stage None None (slept_for slept t) (slept_for waits t)
       (call_state_of call_states t).effect → IsPart (own_at None hand ready ended None slept waits call_states)
   gone_part hand may = grind (arith, cases_eq, others)
@@ -49,7 +50,7 @@ pub rest_set : (t : Tid) (slept waits slept2 waits2 : List (Option BufId)) (call
     → length slept2 ≡ length slept → length waits2 ≡ length waits → Rest t slept2 waits2 (slice_set call_states t.0 state2)
 rest_set t slept waits slept2 waits2 call_states state2 others same_s same_w long_s long_w = grind (arith, get_or-set_other, fit_is, length-set)
 
--- a plan by which all threads go on standing as they may
+-- a plan that keeps all threads in allowed states
 pub record PlanPreserves {A : Type 0} (setup : Setup) (c : CpuId) (p : Plan TowerName TowerAnswer Buffering A) : Type 0 where
   pub lock : LockId
   pub name : TowerName
@@ -72,7 +73,7 @@ module _ (site : Site) (effect : Option Effect) (had : HasHad site effect) (othe
       (fit_is _ state2 (get_or-set_same call_states t.0 state2 no_call in_call_states) fit) hand2 deferred2
       (grind (arith, get_or-set_same call_states t.0 state2 no_call in_call_states))
 
-  -- with nobody in the hand, or with a thread that its section woke
+  -- with an empty hand, or with a thread that its section woke
   runs_on : (ready2 : List Tid) (stage : Stage) → CallStands stage None None None None effect → FitsStage stage (Some call)
       → IsPart (own_at (Some t) None ready2 ended None slept waiting (slice_set call_states t.0 (call_state site effect had stage)))
   runs_on ready2 stage given fit = runs_kept None ready2 None (call_state site effect had stage) (inside stage None None None None effect given) fit
@@ -108,7 +109,7 @@ module _ (site : Site) (effect : Option Effect) (had : HasHad site effect) (othe
       (λ j other. get_or-set_other waiting t.0 j (Some (buffer_of call)) None other) refl (length-set waiting t.0 (Some (buffer_of call))) is_slept
       (get_or-set_same waiting t.0 (Some (buffer_of call)) None in_waits) given fit
 
-  -- a thread was woken that is at home here, or is not
+  -- a thread was woken whose home CPU is this one, or is not
   woke_on : (stage : Stage) (out : TowerOut) (u : Tid) → IsPart (lift site effect had stage out (waking site effect had (Some t) u true)).own
       → IsPart (lift site effect had stage out (waking site effect had (Some t) u false)).own
       → (b : Bool) → IsPart (lift site effect had stage out (waking site effect had (Some t) u b)).own
@@ -196,7 +197,7 @@ answers_keep site had others (signals f) fits x = signals_by site f had others _
 answers_keep site had others (signals_own f) fits x = own_signals_by site f had others _ _
 answers_keep site had others (releases f) fits x = releases_by site f had others (first x.sleepers)
 
--- the plan of a section preserves how all threads stand
+-- the plan of a section keeps all threads in allowed states
 pub section_keeps : (site : Site) (effect : Option Effect) (had : HasHad site effect) → Rest site.t site.slept site.waits site.call_states → (stage : Stage)
     → CallStands stage None None None None effect → FitsStage stage (Some site.call) → PlanPreserves site.setup site.c (plan site effect had stage)
 section_keeps site effect had others stage given fits = record {

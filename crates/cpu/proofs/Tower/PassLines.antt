@@ -21,7 +21,7 @@ PassLine setup c p own guests trace =
 
 module _ (setup : Setup) (c : CpuId) (guests : List State) (trace : List Entry) (ended : List Tid) (slept waits : List (Option BufId))
     (call_states : List CallState) where
-  -- nobody runs or is ready: the pending are taken
+  -- no thread runs or is ready: the pending threads are taken
   abbrev idle_with : List Tid → Buffering
   idle_with ready = own_at None None ready ended None slept waits call_states
 
@@ -67,7 +67,7 @@ module _ (setup : Setup) (c : CpuId) (guests : List State) (trace : List Entry) 
     pub there_free : thread_at p t ≡ free g
     there_free = thread_here running guests trace t in_guests ∙ (grind arith)
 
-    -- it yields: the pending are ready, and behind them the thread
+    -- it yields: the pending threads are ready, and after them the thread
     abbrev yields : Option TowerAnswer → Left Buffering (Unit {0})
     yields reply = react_in (fifo_pass_plan setup.homes c pass.YieldNow running) reply
 
@@ -107,7 +107,7 @@ module _ (setup : Setup) (c : CpuId) (guests : List State) (trace : List Entry) 
         here : thread_of (own_at None None ready (ended ++ t ∷ []) None slept waits call_states) t g ≡ record { guest = g; call = None; ended = true }
         here = grind (arith, pushed_in, same_tid_self, or-true)
 
-  -- an instruction of the thread's own
+  -- an instruction that shares nothing
   pub computed_now : (own : Buffering) (t : Tid) (guest : State) → t.0 < length guests
       → private_of own (slice_set guests t.0 guest) trace ≡ with_state (private_of own guests trace) t guest
   computed_now own t guest within =

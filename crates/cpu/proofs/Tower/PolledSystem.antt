@@ -1,4 +1,5 @@
--- A poll of a CPU: the system in which it is a step, the log before and after it, and the line of the table that it goes.
+-- A poll of a CPU: the system in which it is a step, the log before and after it, and its row of
+-- the table.
 use Rattle.std.proofs.Common.{◌≡◌, List, Option}
 use Rattle.{event_log.specs.{declared.ids.{CpuId.CpuId, LockId.LockId}, Actions.{Action, phase}}, layer_traits.specs.Layers.BufferLaw.Buffering}
 use Rattle.{layer_traits.specs.Polling.Plans.{Left, Plan}, cpu.specs.{Table.{Setups.{Setup, Private}, Steps.{acting, cpu_step}}, Tower.Views.TowerAnswer}}
@@ -15,7 +16,7 @@ pub record Polled : Type 1 where
   pub old : List (Action TowerName)
   pub new : List (Action TowerName)
 
--- from p the CPU's step goes on as from q, and from there the poll's plan is a line of the table
+-- from p the CPU's step continues as from q, and from there the poll's plan is a row of the table
 pub record Way (A : Type 0) (polled : Polled) : Type 0 where
   pub p : Private
   pub q : Private

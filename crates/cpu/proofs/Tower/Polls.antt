@@ -25,7 +25,7 @@ kind_after opening lock opens = blocks_keep (IsKindIn lock) tower.edited opening
     kept : (e : TowerName) (o : Option TowerBlock) → IsKindIn lock o → IsKindIn lock (option_map (tower.edited e) o)
     kept e o kind = grind arith
 
--- what a lock's block is depends on its opening block alone
+-- a lock's block depends only on its opening block
 pub opens_alike : (a b : LockId → Option Block) (lock : LockId) → a lock ≡ b lock → (past : List (Section Name))
     → block_after edited a lock past ≡ block_after edited b lock past
 opens_alike a b lock same [] = same
@@ -48,7 +48,7 @@ module _ {A : Type 0} (polled : Polled) (way : Way A polled) (got : Left Bufferi
   step_is = goes past (ap (phase c) planned.acted.joined ∙ phase_others c planned.acted.others old (planned.acted.foreign c acts))
       ∙ ap (λ (x : Ask). acting_on setup c q x.lock x.name (named past)) line.asks
 
-  -- the table's answer is the view of the layers'
+  -- the table's result is the view of the layers'
   answer_is : option_map answer_view (reply tower opening c line.lock line.name past)
       ≡ reply table_kernel (table_opening setup) c line.lock (name_of line.name) (named past)
   answer_is =
@@ -101,7 +101,7 @@ halted_is_step ActsFor setup c p log reason outside halted = still_is_step ActsF
 pub halts_exactly : HaltsExactly
 halts_exactly setup c p log = grind arith
 
--- A look: one more try of a section that waits.
+-- A poll of a lock: one more try of a section that waits.
 
 pub look_is_step : (ActsFor : CpuId → Type 0) (setup : Setup) (c : CpuId) (p : Private) (old new : List (Action TowerName))
     → Tries ActsFor c old new → IsStep ActsFor (cpu_step setup c) p p (named old) (named new) Stepped
@@ -124,21 +124,21 @@ look_is_step ActsFor setup c p old new tries =
 
 -- What a CPU does that is not halted.
 
--- where the hand is empty and a thread runs, it goes on with its call or its instruction
+-- if the hand is empty and a thread runs, it continues its call or its instruction
 pub choice_current : (setup : Setup) (c : CpuId) (p : Private) (t : Tid) (call : Option TableCall) → p.hand ≡ None → p.current ≡ Some t
     → (thread_at p t).call ≡ call → halted_at setup c p ≡ None → choice setup c p ≡ at_call setup c p t call
 choice_current setup c p t call hand current is halted = grind arith
 
--- where nobody runs, the first that is ready does
+-- if no thread runs, the first ready thread does
 pub choice_idle : (setup : Setup) (c : CpuId) (p : Private) → p.hand ≡ None → p.current ≡ None → halted_at setup c p ≡ None
     → choice setup c p ≡ at_ready p p.ready
 choice_idle setup c p hand current halted = grind arith
 
--- a thread in the hand comes first
+-- a thread in the hand precedes all else
 pub choice_hand : (setup : Setup) (c : CpuId) (p : Private) (u : Tid) → p.hand ≡ Some u → choice setup c p ≡ Goes p
 choice_hand setup c p u hand = ap (at_hand setup c p) hand
 
--- the section that goes on, or begins
+-- the section that continues, or begins
 pub step_goes : (setup : Setup) (c : CpuId) (p q : Private) (old past : List (Action TowerName)) → phase c past ≡ phase c old
     → (is_in_section (phase c old) ≡ true → p ≡ q) → (is_in_section (phase c old) ≡ false → choice setup c p ≡ Goes q)
     → cpu_step setup c p (named past) ≡ acting setup c q (named past)

@@ -1,5 +1,5 @@
--- The plan of each section of a call is a line of the table, where nobody is in the hand: its caller asks, enters, tries, waits, signals and
--- releases.
+-- The plan of each section of a call is a row of the table, while the hand is empty: its caller
+-- acquires, enters, tries, waits, signals and releases.
 use Rattle.std.proofs.Common.{◌≡◌, ◌⊎◌, inl, inr, ℕ, ◌<◌, Bool, true, false, List, [], ◌∷◌, ◌++◌, length, slice_get, slice_set, Option, Some, None, IsSome}
 use Rattle.std.proofs.{Common.{is_some, if◌then◌else◌, refl, ap, sym, ◌∙◌, subst, arith, lt-ltb, ◌≢◌}, lemmas.List.{get_or-set_same, get_or-set_other}}
 use Rattle.std.proofs.lemmas.List.{set-get_or}
@@ -29,7 +29,7 @@ use Rattle.layer_traits.specs.declared.locked.QOut.TheVariants as lock
 use Rattle.layer_traits.specs.declared.conditions.CvOut.TheVariants as cv
 use Rattle.layer_traits.specs.declared.queue_edits.QueueBlock.TheVariants as block
 
--- What a call's sections are, by what it asks.
+-- A call's sections, by what it asks for.
 
 -- a call that closes
 abbrev pub IsShutting : TowerCall → Type 0
@@ -53,7 +53,7 @@ first_answer t (Send b m) x = inl (record { lined = tt; pos = x.sends; is = refl
 first_answer t (Recv b) x = inl (record { lined = tt; pos = x.receives; is = refl })
 first_answer t (Close b) x = inr (record { shuts = tt; op = x.effects; pos = x.closes; is = refl })
 
--- a try that has its effect: it found the buffer closed or not, and then the call's own message stays
+-- a try that takes effect: it found the buffer closed or not, and then the call's own message stays
 pub record Tried (t : Tid) (call : TowerCall) (x : BufferState) : Type 0 where
   pub closed : Bool
   pub op : ℕ
@@ -84,14 +84,15 @@ react_in (Act lock name react) = react
 abbrev pub HasHad : Site → Option Effect → Type 0
 HasHad site effect = (going (call_state_of site.call_states site.t) site.call).effect ≡ effect
 
--- the outcome of a section that woke nobody, and of one that woke a thread, whose caller goes on
+-- the outcome of a section that woke no thread, and of one that woke a thread, whose caller
+-- continues
 abbrev pub calm_out : QOut (CvOut BufferOut) → TowerOut
 calm_out out = record { out = out; slept = false; woke = None }
 
 abbrev pub waking_out : QOut (CvOut BufferOut) → Tid → TowerOut
 waking_out out u = record { out = out; slept = false; woke = Some u }
 
--- what is answered to an Acquire, to an edit inside, to a signal, a leave and a wait
+-- the results of an Acquire, of an edit inside, of a signal, a leave and a wait
 abbrev pub asked_out : Option Tid → TowerOut
 asked_out o = record { out = asker_report o; slept = is_some (wait_list_asked o); woke = None }
 
@@ -107,7 +108,7 @@ left_out o = record { out = lock.Released cv.Left; slept = false; woke = o }
 abbrev pub wait_out : Side → Option Tid → TowerOut
 wait_out side o = record { out = lock.Released (cv.Waited side); slept = true; woke = o }
 
--- What a thread's section stands on, whoever is in the hand, and the guests after it.
+-- The premises of a thread's section, whatever is in the hand, and the guests after it.
 
 module _ (site : Site) where
   open site use {setup, c, runner, t, slept, waits, guests, call}
@@ -200,7 +201,7 @@ module _ (site : Site) (effect : Option Effect) (is_effect : HasHad site effect)
   abbrev pub react : Stage → CvCall BufferEdit → Option TowerAnswer → Left Buffering Reply
   react stage s = react_in (fresh stage s)
 
-  -- the plan of a stage, and what it makes of an answer
+  -- the plan of a stage, and what it makes of a result
   abbrev pub plan : Stage → BufferPlan Reply
   plan stage = plan_at setup.homes c t call stage (call_state stage) own
 
@@ -213,11 +214,11 @@ module _ (site : Site) (effect : Option Effect) (is_effect : HasHad site effect)
   abbrev pub waiting : Left (Locking (CvOut BufferOut)) TowerOut → Left (Waiting BufferOut) TowerOut
   waiting l = left_waiting t buf waits l.own l.answer
 
-  -- what the part leaves after a section with this outcome, where the threads are now these
+  -- what the part leaves after a section with this outcome, with these threads
   abbrev pub lift : Stage → TowerOut → Threads → Left Buffering Reply
   lift stage outcome own2 = left_recorded t call (call_state stage) call_states stage (waiting (locked (left_done outcome own2)))
 
-  -- with a thread woken that is at home here, or is not
+  -- with a woken thread whose home CPU is this one, or is not
   abbrev pub waking : Option Tid → Tid → Bool → Threads
   waking current u b = record { current = current; hand = if b then None else Some u; ready = if b then ready ++ u ∷ [] else ready; ended = ended }
 
@@ -237,11 +238,11 @@ module _ (site : Site) (effect : Option Effect) (is_effect : HasHad site effect)
   abbrev pub putting : Call → Call → List Entry → Thread → Private
   putting now next trace2 x = put setup c ready threads trace t g e within now next trace2 x
 
-  -- what the table makes of an answer
+  -- what the table makes of a result
   abbrev pub by_answer : Stage → TowerOut → Private
   by_answer stage out = after_section setup c (from stage) (answer_view (told.Answer out))
 
-  -- the section of a stage that told this leaves the call so
+  -- the section of a stage that reported this leaves the call so
   abbrev pub Records : Stage → TowerOut → Call → List Entry → Type 0
   Records stage out next trace2 =
       with_told c (from stage) t (k stage) (k stage).stage (report_in out.out) ≡ putting (k stage) next trace2 (thread_at (from stage) t)
@@ -261,7 +262,7 @@ module _ (site : Site) (effect : Option Effect) (is_effect : HasHad site effect)
 
   -- Both sides after a section.
 
-  -- it woke nobody, and the call goes on
+  -- it woke no thread, and the call continues
   pub runs : (stage : Stage) (out : QOut (CvOut BufferOut)) (state2 : CallState) (next : Call) (trace2 : List Entry) → Records stage (calm_out out) next trace2
       → ((p : Private) → returned_at setup p t next next.stage ≡ p)
       → parts (Some t) ready None (slice_set threads t.0 (thread_from state2 None None false e g)) (trace_after c t buf effect state2.effect trace) ≡ stands
@@ -269,7 +270,7 @@ module _ (site : Site) (effect : Option Effect) (is_effect : HasHad site effect)
   runs stage out state2 next trace2 is stays same =
       runs_on None ready None state2 None ∙ same ∙ sym (by_table stage (calm_out out) next trace2 is ∙ stays_so next ready trace2 stays)
 
-  -- a thread that was woken is ready or in the hand, and the call goes on or is over
+  -- a thread that was woken is ready or in the hand, and the call continues or is over
   abbrev pub woke_to : Stage → Tid → Bool → Private
   woke_to next u b = settled setup (if b then stands (ready ++ u ∷ []) None (k next) trace else stands ready (Some u) (k next) trace)
 
@@ -283,12 +284,12 @@ module _ (site : Site) (effect : Option Effect) (is_effect : HasHad site effect)
       by_home u (λ b. lift stage (waking_out out u) (waking (Some t) u b)) (woke_to next u) each hand known
       ∙ sym (by_table stage (waking_out out u) (k next) trace is)
 
-  -- An answer of the layers is taken as the table takes it, whatever effect the call has had.
+  -- The table makes the same of a result of the layers, whatever effect the call has had.
 
   abbrev Fits : Stage → TowerOut → Type 0
   Fits stage out = HandIsKnown setup (reacted stage out).own → after (reacted stage out) ≡ by_answer stage out
 
-  -- it woke nobody, and the call goes on at its next stage
+  -- it woke no thread, and the call continues at its next stage
   stands_at : (stage next : Stage) (out : QOut (CvOut BufferOut)) → Records stage (calm_out out) (k next) trace
       → ((p : Private) → returned_at setup p t (k next) (k next).stage ≡ p) → thread_from (call_state next) None None false e g ≡ with_call (k next)
       → after (left_on None ready None (call_state next) None) ≡ by_answer stage (calm_out out)
@@ -296,7 +297,7 @@ module _ (site : Site) (effect : Option Effect) (is_effect : HasHad site effect)
       runs stage out (call_state next) (k next) trace is stays
       (λ i. parts (Some t) ready None (slice_set threads t.0 (same i)) (same_trace c t buf effect trace i))
 
-  -- it asks for the lock, and has it or sleeps for it
+  -- it acquires the lock, and has it or sleeps for it
   sleeps : (stage next : Stage) (owner : Tid) → Records stage (asked_out (Some owner)) (k next) trace
       → thread_from (call_state stage) (Some buf) None false e g ≡ with_call (k next)
       → after (left_gone None ready (slice_set slept t.0 (Some buf)) waits stage) ≡ by_answer stage (asked_out (Some owner))
@@ -314,7 +315,7 @@ module _ (site : Site) (effect : Option Effect) (is_effect : HasHad site effect)
   ask_again None known = stands_at AcquiresAgain Tries (asked_out None).out refl (λ p. refl) refl
   ask_again (Some owner) known = sleeps AcquiresAgain Tries owner refl refl
 
-  -- it waits, with the thread that it woke at home or in the hand
+  -- it waits, with the thread that it woke ready or in the hand
   abbrev gone_so : Private
   gone_so = slept_if true (stands ready None (k AcquiresAgain) trace)
 
@@ -425,7 +426,7 @@ module _ (site : Site) (f : Effect) (had : HasHad site (Some f)) where
 
 -- Each stage.
 
--- where a call's next section is due, its plan is this section's
+-- if a call's next section is due, its plan is this section's
 pub section_planned : (site : Site) {effect : Option Effect} (had : HasHad site effect) {stage : Stage} → CallStands stage None None None None effect
     → plan site effect had stage ≡ fresh site effect had stage (call_section site.t site.call stage)
 section_planned site had asks = grind arith
@@ -437,7 +438,7 @@ pub stands_as : (site : Site) (effect : Option Effect) (had : HasHad site effect
     ≡ with_call site effect had (k site effect had stage)
 stands_as site effect had stage given = grind arith
 
--- the table asks for the section under its own name
+-- the table requests the section under its own name
 named_so : (t : Tid) (call : TowerCall) (position : ℕ) {effect : Option Effect} {stage : Stage} → CallStands stage None None None None effect
     → FitsStage stage (Some call) → section_due t (call_from call position effect stage) stage ≡ name_of (queue.Above (call_section t call stage))
 named_so t call position given fits = grind arith

@@ -1,4 +1,4 @@
--- What the table makes of the answer of a section of the current thread's call.
+-- What the table makes of the result of a section of the current thread's call.
 use Rattle.std.proofs.{Common.{◌≡◌, ◌<◌, Bool, List, length, slice_set, Option, Some, None, ap, ◌∙◌}, lemmas.List.{get_or-set_same, set-set}}
 use Rattle.{event_log.specs.declared.{entries.Entry.Entry, ids.{CpuId.CpuId, Tid.Tid}}, guest.specs.State.{State, next_of}, cpu.specs.Table.Blocks.Answer}
 use Rattle.cpu.specs.Table.{Setups.{Setup, Call, Thread, Private, new_thread, program_of, thread_at}, Choice.{after_by, after_section, asked, asked_by}}
@@ -14,7 +14,7 @@ module _ (setup : Setup) (c : CpuId) (ready : List Tid) (threads : List Thread) 
   abbrev pub done_with : Call → Thread
   done_with call = record { guest = guest_after call.asks call.closed (next_of (program_of setup t) g) call.message g; call = None; ended = e }
 
-  -- thread t runs and stands so
+  -- thread t runs and is in this state
   abbrev pub with_t : List Tid → Option Tid → Thread → List Entry → Private
   with_t ready2 hand x trace2 = parts (Some t) ready2 hand (slice_set threads t.0 x) trace2
 
@@ -27,7 +27,7 @@ module _ (setup : Setup) (c : CpuId) (ready : List Tid) (threads : List Thread) 
   pub asks_for : (call : Call) → asked setup c (from_t call) ≡ at_buffer call.buffer (section_due t call call.stage)
   asks_for call = ap (λ x. asked_by c t x.call) (there (calling call) ready None trace)
 
-  -- the table's private state after a section whose answer leaves the call so
+  -- the table's private state after a section whose result leaves the call so
   abbrev pub put : Call → Call → List Entry → Thread → Private
   put call next trace2 x = parts (Some t) ready None (slice_set (slice_set threads t.0 (calling call)) t.0 (record x { call = Some next })) trace2
 
@@ -39,7 +39,7 @@ module _ (setup : Setup) (c : CpuId) (ready : List Tid) (threads : List Thread) 
       ∙ ap (λ r. settled setup (woken setup c a.woke (slept_if a.slept r))) (is ∙ (ap (put call next trace2) (there (calling call) ready None trace)
       ∙ ap (λ l. parts (Some t) ready None l trace2) (set-set threads t.0 (calling call) (calling next))))
 
-  -- a call that has a section left goes on
+  -- a call that has a section left continues
   pub goes_on : (next : Call) (ready2 : List Tid) (trace2 : List Entry) → ((p : Private) → returned_at setup p t next next.stage ≡ p)
       → settled setup (with_t ready2 None (calling next) trace2) ≡ with_t ready2 None (calling next) trace2
   goes_on next ready2 trace2 stays =

@@ -1,5 +1,6 @@
--- One CPU's private state against where its threads are and what they do: whoever is current or ready is at home, the hand holds whom it
--- woke, and each call stands at the stage that its visit says.
+-- One CPU's private state against the places and the calls of its threads: the running thread and
+-- the ready threads have this home CPU, the hand holds the thread that it woke, and each call is at
+-- the stage that its visit gives.
 use Rattle.std.proofs.Common.{◌≡◌, ◌+◌, ◌<◌, Bool, true, false, not, ◌&&◌, [], ◌∷◌, ◌++◌, length, Option, Some, None, is_some, nat_lt, if◌then◌else◌, refl, sym}
 use Rattle.std.proofs.{Common.{ap, ◌∙◌, subst, arith}, lemmas.Bool.{and_parts, and_from, and_left, and_right, false_from_ne_true, ltb-true, eqb-false}}
 use Rattle.std.proofs.lemmas.List.{length-set, get_or-set_same, get_or-set_other}
@@ -41,7 +42,7 @@ abbrev pub is_done : Option Call → Bool
 is_done None = false
 is_done (Some call) = is_last call.stage
 
--- a thread at home that has not ended runs or is ready, once
+-- a home thread that has not ended runs or is ready, once
 abbrev pub seat : Setup → CpuId → Tid → Where → Bool → Bool
 seat setup c u x ended = is_local setup c u && (is_home x && not ended)
 
@@ -76,7 +77,7 @@ pub record Same (p q : Private) (t : Tid) : Type 0 where
 pub same_with : (p : Private) (t : Tid) (x : Thread) → t.0 < length p.threads → x.ended ≡ (thread_at p t).ended → Same p (with_thread p t x) t
 same_with p t x known ended = grind (arith, length-set, at_other, same_tid_true, at_same)
 
--- what a thread stands at does not matter where it has a call, nor what the trace is
+-- a thread's instruction does not matter while it has a call, nor does the trace
 pub agrees_same : (setup : Setup) (c : CpuId) (p q : Private) (t : Tid) (T N : Tid → Visit) (P : Tid → Where) → Agrees setup c p T P → Same p q t
     → ((u : Tid) → same_tid t u ≡ false → N u ≡ T u) → N t ≡ visit_of_call (thread_at q t).call → Agrees setup c q N P
 agrees_same setup c p q t T N P agrees same others mine = grind (arith, by_test)
@@ -103,7 +104,7 @@ pub runs_within : (setup : Setup) (c : CpuId) (p : Private) (T : Tid → Visit) 
     → (t : Tid) → p.current ≡ Some t → t.0 < length p.threads
 runs_within setup c p T P agrees t is = local_within setup c p T P agrees t (runs_at_home setup c p T P agrees t is).0
 
--- The caller goes to sleep.
+-- The caller falls asleep.
 
 pub agrees_slept : (setup : Setup) (c : CpuId) (p : Private) (t : Tid) (T : Tid → Visit) (P N : Tid → Where) (slept : Bool) → Agrees setup c p T P
     → p.current ≡ Some t → ((u : Tid) → same_tid t u ≡ false → N u ≡ P u) → (slept ≡ false → N t ≡ P t)

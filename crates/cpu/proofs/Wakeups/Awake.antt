@@ -1,4 +1,5 @@
--- One buffer and the progress of its owner: whoever is due to be woken is the owner itself, or will be signalled before the lock is given back.
+-- One buffer and the progress of its owner: a thread that is due to be woken is the owner itself,
+-- or will be signalled before the lock is released.
 use Rattle.std.proofs.{Common.{◌≡◌, Bool, true, false, ◌&&◌, List, [], Option, Some, None, refl, sym, ◌∙◌, subst, arith}, lemmas.Bool.{and_parts, and_from}}
 use Rattle.std.proofs.lemmas.{Bool.false_from_ne_true, Option.same_Some}
 use Rattle.{event_log.specs.declared.ids.Tid.Tid, thread_blocks.{specs.Queues.{first, rest}, proofs.Members.{same_tid_self, same_tid_true}}}
@@ -7,12 +8,13 @@ use Rattle.{layer_traits.specs.Blocks.BufferBlocks.is_first, cpu.specs.Table.Blo
 use Rattle.cpu.specs.{Table.{Blocks.{SigSend, RelQ, front_stands_in}, Edits.{may_try, is_due, shut_off, released, edited_buffer}}, Wakeups.Order.Progress}
 use Rattle.cpu.{specs.Wakeups.Order.{Begins, HasEntered, WasRefused, Owes, progress_after, MayEdit}, proofs.Wakeups.Lists.{refuted, none_is_not, in_joined}}
 
--- nobody is due
+-- no thread is due
 abbrev pub IsCalm : Buffer → Type 0
 IsCalm k = (is_due Senders k ≡ false) × (is_due Receivers k ≡ false)
 
--- what the owner's progress says of those that are due: at the start of a section nobody is; once it has entered a line, at most it itself; once
--- its try was in vain nobody is, and its try would be in vain again; and once it owes signals, only those that it owes a signal
+-- what the owner's progress implies for the threads that are due: at the start of a section none
+-- is; after it has entered a line, at most the owner; after its try failed none is, and its try
+-- would fail again; and while it owes signals, only those that it owes a signal
 abbrev pub Fits : Buffer → Progress → Type 0
 Fits k Begins = IsCalm k
 Fits k (HasEntered Senders) = (is_due Senders k ≡ true → (t : Tid) → k.busy ≡ Some t → is_first t k.send_line ≡ true) × (is_due Receivers k ≡ false)
@@ -30,18 +32,18 @@ pub record IsAwake (k : Buffer) (g : Progress) : Type 0 where
 owned : {A : Type 0} {t : Tid} (o : Option Tid) → o ≡ Some t → o ≡ None → A
 owned {A = A} {t = t} o some none = none_is_not (sym none ∙ some)
 
--- whoever closes the buffer owes both signals
+-- a thread that closes the buffer owes both signals
 after_shut : (t : Tid) (k : Buffer) → k.busy ≡ Some t → IsAwake (shut_off k) (Owes true true)
 after_shut t k owner = record { fits = (λ e. absurd (cc e), λ e. absurd (cc e)); idle = λ e. owned k.busy owner e }
 
--- a lock that nobody owns after it was given back had no sleepers
+-- a lock that no thread owns after its release had no sleepers
 nobody_left : (sleepers : List Tid) → first sleepers ≡ None → rest sleepers ≡ []
 nobody_left sleepers none = grind arith
 
 after_release : (k : Buffer) → IsCalm k → IsAwake (released k) Begins
 after_release k calm = record { fits = calm; idle = λ e. (refl, nobody_left k.sleepers e) }
 
--- whoever waits now is not due, since its try would be in vain
+-- a thread that begins to wait is not due, because its try would fail
 calm_wait : (t : Tid) (line list : List Tid) (can : Bool) → (front_stands_in line list && can) ≡ false → (is_first t line && can) ≡ false
     → (front_stands_in line (joined t list) && can) ≡ false
 calm_wait t line list can calm vain = grind (arith, false_from_ne_true, and_parts, in_joined, refuted, same_tid_true, same_tid_self)

@@ -1,4 +1,5 @@
--- What holds after any section log in which each section may come: every buffer with every thread, and where each thread is.
+-- The invariant of every section log in which each section may occur: every buffer with every
+-- thread, and the place of each thread.
 use Rattle.std.proofs.Common.{◌≡◌, Bool, true, false, ◌&&◌, List, [], ◌∷◌, length, Option, Some, None, option_map, nat_lt, if◌then◌else◌, refl, sym, ap, ◌∙◌}
 use Rattle.std.proofs.{Common.{subst, arith}, lemmas.Bool.{and_parts, and_left, and_right, false_from_ne_true}}
 use Rattle.event_log.specs.declared.ids.{CpuId.CpuId, Tid.Tid, BufId.BufId, LockId.{LockId, TheVariants.{Pending, Buffer as AtBuffer}}, TheConstants.THREADS}
@@ -23,7 +24,7 @@ pub record Good (setup : Setup) (past : List (Section Name)) : Type 0 where
       → count_in u threads ≡ one_if (same_cpu (home_cpu setup u) d && is_pending (post setup u past))
   -- only a number that is a thread's was ever woken
   pub small : (u : Tid) → is_moved (post setup u past) ≡ true → nat_lt u.0 THREADS ≡ true
-  -- whoever is not at home has a home
+  -- a thread that is not at `Home` has a home CPU
   pub known : (u : Tid) → is_home (post setup u past) ≡ false → nat_lt u.0 (length setup.homes) ≡ true
 
 -- A new log.
@@ -33,13 +34,14 @@ good_none setup = grind (arith, same_buffer, paired, marked_none, and_right)
 
 -- How a section moves a thread.
 
--- after a section of CPU c at buffer d a thread was woken there, has gone to sleep there as the section's caller, or is where it was
+-- after a section of CPU c at buffer d a thread was woken there, fell asleep there as the section's
+-- caller, or is where it was
 pub data Moves (setup : Setup) (c : CpuId) (d : BufId) (u : Tid) (name : Name) (post now : Where) : Type 0 where
   was_woken : nat_lt u.0 THREADS ≡ true → sleeps_at d post ≡ true → now ≡ post_woken setup c u → Moves setup c d u name post now
   has_slept : post ≡ Home → is_caller u name ≡ true → now ≡ waiters_of d name → Moves setup c d u name post now
   stays : now ≡ post → Moves setup c d u name post now
 
--- the caller of a section is at home, and its section is due
+-- the caller of a section is at `Home`, and its section is due
 abbrev pub CallersAre : Setup → List (Section Name) → CpuId → BufId → Name → Type 0
 CallersAre setup past c d name = (u : Tid) → caller_in name ≡ Some u → IsCallers setup c d name u (post setup u past) (visit setup u past)
 
@@ -169,7 +171,7 @@ module _ (setup : Setup) (past : List (Section Name)) (good : Good setup past) (
 
 -- A section on pending threads.
 
--- the queue of the lock at which the section came, and the queue of another lock
+-- the queue of the section's lock, and the queue of another lock
 module _ (setup : Setup) (past : List (Section Name)) (good : Good setup past) (c d : CpuId) where
   pended_list : (s : Tid) → post setup s past ≡ Hand c → home_cpu setup s ≡ d → (u : Tid) (list : List Tid)
       → block_of setup (Pending d) past ≡ Some (OfPending list)
@@ -212,7 +214,7 @@ module _ (setup : Setup) (past : List (Section Name)) (good : Good setup past) (
           let here = same_cpu_true e d same in rw here (grind (arith, rw here at is, pended_list))
       by_test e u now false off is = good.pending e u now is ∙ ap one_if (sym (grind (arith, may, off, same_tid_true, same_cpu_sym, same_cpu_true)))
 
--- any section that may come
+-- any section that may occur
 module _ (setup : Setup) (past : List (Section Name)) (good : Good setup past) (c : CpuId) (name : Name) where
   good_at : (lock : LockId) → MayComeAt setup past c lock name → Good setup (record { cpu = c; lock = lock; edit = name } ∷ past)
   good_at (Pending d) may = good_pending setup past good c d name may

@@ -1,4 +1,5 @@
--- A call alone goes through its sections, with one more where a signal wakes a thread of another CPU.
+-- A call without contention goes through its sections, with one more if a signal wakes a thread of
+-- another CPU.
 use Rattle.std.proofs.Common.{◌≡◌, ℕ, ◌+◌, ◌<◌, ◌≤◌, Bool, true, false, not, ◌&&◌, List, [], ◌∷◌, ◌++◌, slice_get, Option, Some, None, option_map}
 use Rattle.std.proofs.{Common.{if◌then◌else◌, refl, sym, ap, ◌∙◌, subst, arith}, lemmas.Bool.lt-ltb}
 use Rattle.event_log.specs.declared.{ids.{CpuId.CpuId, Tid.Tid, LockId.TheVariants.Buffer as AtBuffer, TheConstants.THREADS}, entries.Entry.Entry}
@@ -14,7 +15,8 @@ use Rattle.cpu.proofs.Wakeups.{Agreement.at_same, CpuStep.pending_there, CpuAlon
 use Rattle.cpu.proofs.Wakeups.CpuAlone.{three_steps, stands_after, InCall, with_new, goes_on, asks_for, after_is, settled_is, block_next}
 
 module _ (setup : Setup) (c : CpuId) (t : Tid) where
-  -- after n steps of CPU c its thread t stands in this call, which goes on; the call's buffer holds this
+  -- after n steps of CPU c its thread t is in this call, which continues; the call's buffer holds
+  -- this
   pub record Gets (s : Whole) (n : ℕ) (k : Buffer) (call : Call) (traced : List Entry) (left : ℕ) : Type 0 where
     pub now : Whole
     pub by : steps_by setup c n s ≡ now
@@ -26,7 +28,7 @@ module _ (setup : Setup) (c : CpuId) (t : Tid) where
     pub inside : InCall setup c state t call traced
     pub block : block_of setup (AtBuffer call.buffer) past ≡ Some (OfBuffer k)
 
-  -- three steps are the section that is due, told this
+  -- three steps are the section that is due, with this result
   section_done : {k : Buffer} {call : Call} {traced : List Entry} (s : Whole) (n left : ℕ) (a : Answer) (gets : Gets s n k call traced (left + 3))
       → answer_of_buffer (section_due t call call.stage) k ≡ a → steps_by setup c (n + 3) s ≡ after_three setup c gets.now gets.state a
   section_done {call = call} {traced = traced} s n left a gets told =
@@ -54,7 +56,7 @@ module _ (setup : Setup) (c : CpuId) (t : Tid) where
         block = grind (arith, q, asks, block_next);
       }
 
-  -- a section that puts nobody to sleep and wakes nobody: the call records what it answers
+  -- a section that puts no thread to sleep and wakes none: the call records its result
   answer_recorded : (p h : Private) (call more : Call) (traced longer : List Entry) (told : Reported) → InCall setup c p t call traced
       → with_told c p t call call.stage told ≡ h
       → InCall setup c h t more longer → returned_at setup h t more more.stage ≡ h → InCall setup c (after_section setup c p (reports told)) t more longer
@@ -129,20 +131,20 @@ module _ (setup : Setup) (c : CpuId) (t : Tid) where
     block = gets.block;
   }
 
-  -- A signal, behind which the call is as `more`.
+  -- A signal, after which the call is as `more`.
 
   module _ (s : Whole) (k next : Buffer) (call more : Call) (traced : List Entry) (same_buffer : call.buffer ≡ more.buffer)
       (edits : edited_buffer (section_due t call call.stage) k ≡ next)
       (recorded_so : (p : Private) (told : Reported) → with_told c p t call call.stage told ≡ with_call p t (Some more))
       (stays : (p : Private) → returned_at setup p t more more.stage ≡ p) where
-    -- a signal that wakes nobody
+    -- a signal that wakes no thread
     signals_none : (n left : ℕ) → answer_of_buffer (section_due t call call.stage) k ≡ wakes None
         → Gets s n k call traced (left + 3) → Gets s (n + 3) next more traced left
     signals_none n left told gets =
         advance s n k next call more traced traced left (reports Nothing) gets told edits same_buffer (λ p inside. answer_recorded p (with_call p t (Some more))
         call more traced traced Nothing inside (recorded_so p Nothing) (new_in p call more traced inside) (stays (with_call p t (Some more))))
 
-    -- a signal that wakes a thread at home here
+    -- a signal that wakes a thread of this home CPU
     signals_home : (n left : ℕ) (u : Tid) → same_cpu (home_cpu setup u) c ≡ true → answer_of_buffer (section_due t call call.stage) k ≡ wakes (Some u)
         → Gets s n k call traced (left + 3) → Gets s (n + 3) next more traced left
     signals_home n left u here told gets =
@@ -192,7 +194,7 @@ module _ (setup : Setup) (c : CpuId) (t : Tid) where
           block = grind (arith, past, asks, block_next);
         }
 
-    -- a signal, whomever it wakes
+    -- a signal, whichever thread it wakes
     signals : (n left : ℕ) (woke : Option Tid) → answer_of_buffer (section_due t call call.stage) k ≡ wakes woke
         → Gets s n k call traced (left + (3 + steps_to_move setup c woke)) → Gets s (n + (3 + steps_to_move setup c woke)) next more traced left
     signals n left None told gets = signals_none n left told gets
@@ -206,7 +208,7 @@ module _ (setup : Setup) (c : CpuId) (t : Tid) where
             subst (λ m. Gets s m next more traced left) same
             (signals_away n left u away told (with_less s n k call traced (left + 6) ((left + 3) + 3) (omega arith) got))
 
-  -- the call has returned, with this trace; one step before it was under way
+  -- the call has returned, with this trace; one step earlier it was under way
   pub record Returned (s : Whole) (n : ℕ) (traced : List Entry) : Type 0 where
     pub now : Private
     pub here : slice_get (steps_by setup c n s).cpus c.0 ≡ Some now
@@ -214,7 +216,7 @@ module _ (setup : Setup) (c : CpuId) (t : Tid) where
     pub trace : now.trace ≡ traced
     pub before : (m : ℕ) → m + 1 ≡ n → IsInCall (steps_by setup c m s) c t
 
-  -- the lock is given back, and nobody sleeps at it
+  -- the lock is released, and no thread sleeps at it
   releases : (s : Whole) (n left : ℕ) (k : Buffer) (call : Call) (traced : List Entry) → k.sleepers ≡ []
       → Gets s n k (record call { stage = Releases }) traced (left + 3) → Returned s (n + 3) traced
   releases s n left k call traced none gets =

@@ -1,4 +1,5 @@
--- A CPU alone: three steps of it are one section, and a call of it goes on section by section.
+-- A CPU that steps without the others: three steps of it are one section, and a call of it
+-- continues section by section.
 use Rattle.std.proofs.Common.{◌≡◌, ℕ, zero, suc, ◌+◌, ◌<◌, ◌≤◌, true, false, ◌&&◌, List, [], ◌∷◌, length, slice_get, slice_set, Some, None, option_map, refl}
 use Rattle.std.proofs.{Common.{sym, ap, ◌∙◌, subst, arith}, lemmas.Bool.ne_eqb}
 use Rattle.event_log.specs.{declared.{ids.{CpuId.CpuId, Tid.Tid, BufId.BufId, LockId.TheVariants.Buffer as AtBuffer}, entries.Entry.Entry}, Sections.Section}
@@ -22,7 +23,8 @@ steps_more setup c (suc n) m s =
 abbrev pub section_of : CpuId → Ask → Section Name
 section_of c ask = record { cpu = c; lock = ask.lock; edit = ask.name }
 
--- CPU c rests with this private state, after these sections, while every lock is free; there is room for so many steps more
+-- CPU c rests with this private state, after these sections, while every lock is free; there is
+-- room for so many steps more
 pub record Stands (setup : Setup) (c : CpuId) (s : Whole) (p : Private) (past : List (Section Name)) (left : ℕ) : Type 0 where
   pub here : slice_get s.cpus c.0 ≡ Some p
   pub did : sections_in s.log ≡ past
@@ -120,7 +122,7 @@ module _ (setup : Setup) (c : CpuId) where
   have_same p q t same [] = refl
   have_same p q t same (u ∷ ts) = λ i. same.ended u i && have_same p q t same ts i
 
-  -- the call goes on as another
+  -- the call continues as another
   pub with_new : (p : Private) (t : Tid) (call : Call) (traced : List Entry) → p.hand ≡ None → p.current ≡ Some t → t.0 < length p.threads
       → have_ended p (home_threads setup c) ≡ false → p.trace ≡ traced → InCall (with_call p t (Some call)) t call traced
   with_new p t call traced hand current known live trace =

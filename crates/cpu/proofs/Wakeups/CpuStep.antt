@@ -1,4 +1,5 @@
--- One step of a CPU: each section that it ends is one that may come, and every CPU stays in agreement with the log.
+-- One step of a CPU: each section that it ends is one that may occur, and every CPU stays in
+-- agreement with the log.
 use Rattle.std.proofs.Common.{◌≡◌, true, false, List, [], ◌∷◌, ◌++◌, length, Option, Some, None, option_map, nat_lt, refl, sym, ap, ◌∙◌, subst, arith}
 use Rattle.std.proofs.lemmas.Bool.{and_parts, false_from_ne_true}
 use Rattle.cpu.proofs.Wakeups.{Agreement.{at_other, at_same, Agrees, IsSettled, runs_at_home, runs_within}, Lists.refuted, ThreadAtBuffer.woken_sleeps}
@@ -69,7 +70,7 @@ foreign_step setup past good c p s off may agrees = foreign_at setup past good c
 
 -- The CPU's own section.
 
--- a section that a CPU ends may come, and leaves the CPU in agreement
+-- a section that a CPU ends may occur, and leaves the CPU in agreement
 pub record GiveOk (setup : Setup) (past : List (Section Name)) (c : CpuId) (p : Private) (lock : LockId) (name : Name) : Type 0 where
   pub may : MayComeAt setup past c lock name
   pub agrees : Agrees setup c (after_reply setup c p (option_map (answer name) (block_of setup lock past)))

@@ -1,11 +1,12 @@
--- One list of actions of which each CPU has done its part by the table: its sections may come where they stand.
+-- One list of actions of which each CPU has done its share according to the table: each of its
+-- sections may occur after those before it.
 use Rattle.std.proofs.{Common.{ℕ, ◌<◌, ◌≤◌, ◌⊎◌, inl, inr, List, [], ◌∷◌, ◌++◌, if◌then◌else◌, refl, sym, ap, ◌∙◌, subst, arith}, lemmas.Bool.cases_lt}
 use Rattle.event_log.{specs.{declared.ids.CpuId.CpuId, History.own_events, Sections.sections_in, Actions.{Action, cpu_of_action}}, proofs.Same.same_cpu_self}
 use Rattle.{event_log.proofs.Foreign.lawful_before, layer_traits.specs.Polling.Along.{starts, others, steps}, cpu.specs.Table.{Blocks.Name, Setups.Setup}}
 use Rattle.cpu.{specs.{Table.{Setups.Private, Steps.{cpu_step, AlongTable}}, Wakeups.Lost.{IsWorked, CpusLoseNoWakeUp}}, proofs.Wakeups.Lists.refuted}
 use Rattle.cpu.proofs.Wakeups.{Ordered.order_loses_no_wake_up, ReachedStates.{IsFair, IsFairLog, fair_good, Ok, step_ok, ok_beside, ok_at_boot}, Merging.cut}
 
--- along a log whose sections may come a CPU agrees with the log
+-- along a log whose sections may occur, a CPU agrees with the log
 pub along_ok : (setup : Setup) (c : CpuId) (n : ℕ) (p : Private) (log : List (Action Name))
     → AlongTable setup c n p log → IsFairLog setup log → Ok setup c p log
 along_ok setup c n p log starts = λ fair. ok_at_boot setup c

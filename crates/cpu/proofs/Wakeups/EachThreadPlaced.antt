@@ -67,7 +67,7 @@ module _ (setup : Setup) (s : Whole) (homes : HomesExist setup) (kept : SystemIn
   no_buffers : (x : Where) → post setup u (sections_in s.log) ≡ x → ((b : BufId) (list : WaitList) → sleeps_in b list x ≡ false) → buffers_sum ≡ 0
   no_buffers x is awake = total_none _ (length setup.caps) (λ i below. grind (arith, at_buffer x is i below, marked_none, awake (buffer_numbered i)))
 
-  -- no seat where the thread is not at home
+  -- no seat if the thread is not at `Home`
   no_seat : (x : Where) (i : ℕ) → is_home x ≡ false → one_if (seat setup (cpu_numbered i) u x (ended_at i)) ≡ 0
   no_seat x i off = ap one_if (and_right (is_local setup (cpu_numbered i) u) (is_home x && not (ended_at i)) (and_left (is_home x) (not (ended_at i)) off))
 

@@ -1,4 +1,5 @@
--- The private states alone: a thread that has ended is inside no call, and a call that has not taken effect is what its thread asks next.
+-- Facts of the private states only: a thread that has ended is inside no call, and a call that has
+-- not taken effect is what its thread asks for next.
 use Rattle.std.proofs.Common.{◌≡◌, ℕ, ◌<◌, ◌≤◌, Bool, true, false, List, ◌∷◌, length, map, get_or, ◌⊎◌, inl, inr, suc, Option, Some, None, refl, sym, subst}
 use Rattle.std.proofs.{Common.arith, lemmas.{Bool.cases_lt, List.set_past}}
 use Rattle.event_log.specs.{declared.ids.{CpuId.CpuId, Tid.Tid}, Actions.Action, Runs.{Group, Closes}}
@@ -16,7 +17,7 @@ is_before Releases = false
 is_before Idle = false
 is_before stage = true
 
--- what a call asks that has a line
+-- what a call that has a line asks for
 abbrev pub HasLine : Group → Type 0
 HasLine Closes = ⊥
 HasLine asks = Unit {0}
@@ -68,7 +69,7 @@ module _ (setup : Setup) (c : CpuId) where
   fine_slept : (slept : Bool) (p : Private) → AllFine setup p → AllFine setup (slept_if slept p)
   fine_slept slept p fine = grind arith
 
-  -- where a thread's number is past the list, nothing is set
+  -- if a thread's number is past the list, nothing is set
   fine_set : (p : Private) (t : Tid) (x : Thread) → AllFine setup p → Fine setup t x → AllFine setup (with_thread p t x)
   fine_set p t x fine now = by_place (cases_lt t.0 (length p.threads))
     where
@@ -79,7 +80,7 @@ module _ (setup : Setup) (c : CpuId) where
   fine_settled : (p : Private) → AllFine setup p → AllFine setup (settled setup p)
   fine_settled p fine = grind (arith, fine_set)
 
-  -- after a section; whoever runs is a thread here
+  -- after a section; the running thread is one of this list
   fine_section : (p : Private) → AllFine setup p → ((t : Tid) → p.current ≡ Some t → t.0 < length p.threads)
       → (a : Answer) → AllFine setup (after_section setup c p a)
   fine_section p fine known a = by_hand p.hand

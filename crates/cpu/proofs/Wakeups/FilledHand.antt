@@ -1,4 +1,4 @@
--- A CPU whose hand holds a thread either runs nobody or runs a thread inside its call.
+-- A CPU whose hand holds a thread runs none, or runs a thread inside its call.
 use Rattle.std.proofs.Common.{◌≡◌, ℕ, ◌<◌, Bool, true, List, length, slice_get, Option, Some, None, is_some, ap, arith}
 use Rattle.{event_log.specs.{declared.ids.{CpuId.CpuId, Tid.Tid}, Actions.Action}, layer_traits.specs.declared.call_states.Stage.Stage}
 use Rattle.cpu.specs.Table.{Blocks.{Name, Reported}, Setups.{Setup, Call, Private, thread_at}, Choice.{Choice, with_call, choice, with_told, slept_if, woken}}
@@ -13,11 +13,11 @@ empty_filled : (p : Private) → p.hand ≡ None → IsFilled p
 empty_filled p empty t full runs_now = refuted (ap is_some empty) full
 
 module _ (setup : Setup) (c : CpuId) where
-  -- a state whose hand is empty keeps it so where it settles
+  -- a state whose hand is empty keeps it so when it settles
   settled_empty : (p : Private) → p.hand ≡ None → (hand current : Option Tid) → (returned_in setup p hand current).hand ≡ None
   settled_empty p empty hand current = grind arith
 
-  -- the call of a thread that was told is there, and it runs with the hand as it was
+  -- the call of a thread that got a result is there, and it runs with the hand as it was
   record RecordedSome (p q : Private) (t : Tid) : Type 0 where
     pub hand : q.hand ≡ p.hand
     pub current : q.current ≡ p.current

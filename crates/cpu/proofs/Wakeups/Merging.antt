@@ -19,7 +19,7 @@ booted setup n (suc k) (suc i) below =
 
 -- ---- one system
 
--- the private states and the list that the table's steps leave, by a schedule
+-- the private states and the list that the table's steps leave under a schedule
 data Goes (setup : Setup) : List CpuId → List Private → List (Action Name) → Type 0 where
   boots : Goes setup [] (boots_from setup 0 setup.cpus) []
   goes : {before : List CpuId} {ps : List Private} {log : List (Action Name)} (c : CpuId) (p : Private) → Goes setup before ps log → c.0 < setup.cpus
@@ -73,7 +73,7 @@ IsShort c acts = (acts ≡ []) ⊎ ((a : Action Name) × (acts ≡ a ∷ []) × 
 short : (setup : Setup) (c : CpuId) (p : Private) (log : List (Action Name)) → IsShort c (cpu_step setup c p log).acts
 short setup c p log = grind (arith, same_cpu_self c)
 
--- the way of a CPU before the newest action, what that action made of it, and its way behind it
+-- the steps of a CPU before the newest action, what that action made of it, and its steps after it
 pub record Cut (setup : Setup) (c : CpuId) (a : Action Name) (past : List (Action Name)) (p : Private) : Type 0 where
   pub before : Private
   pub count : ℕ
@@ -131,7 +131,7 @@ cut setup c n p log (steps {n = m} {p = q} {log = before} along taken) =
           way = stays;
         }
 
--- the way of a CPU before any action
+-- the steps of a CPU before any action
 from_boot : (setup : Setup) (c : CpuId) (n : ℕ) (p : Private) (log : List (Action Name)) → AlongTable setup c n p log → log ≡ []
     → Way setup c [] (boot_of setup c) p
 from_boot setup c n p log starts = λ is. stays
@@ -154,7 +154,7 @@ record Reached (setup : Setup) (log : List (Action Name)) (R : ℕ → Private �
   way : Goes setup sched ps log
   all : (k : ℕ) → k < setup.cpus → (p : Private) × (slice_get ps k ≡ Some p) × R k p
 
--- one CPU has gone on without an action, and no other
+-- one CPU has taken steps without an action, and no other has
 record Moved (setup : Setup) (log : List (Action Name)) (ps : List Private) (k : ℕ) (p : Private) : Type 0 where
   sched : List CpuId
   qs : List Private
@@ -176,15 +176,15 @@ move setup log sched ps k q p below at here (alone {p = r} way stepped none) =
       others = λ i off. set_else m.qs k i (cpu_step setup (cpu_numbered k) r log).next off ∙ m.others i off;
     }
 
--- a CPU has a way from here to where it is to be
+-- the steps of a CPU from here to its last state
 abbrev FromWay : Setup → List (Action Name) → (ℕ → Private → Type 0) → ℕ → Private → Type 0
 FromWay setup log R k q = (p : Private) × Way setup (cpu_numbered k) log q p × R k p
 
--- the first n CPUs have gone their ways
+-- the first n CPUs have taken their steps
 abbrev Half : Setup → List (Action Name) → (ℕ → Private → Type 0) → ℕ → ℕ → Private → Type 0
 Half setup log R n k q = (k < n → R k q) × (n ≤ k → FromWay setup log R k q)
 
--- CPU n has gone its way too
+-- CPU n has taken its steps too
 gone : (setup : Setup) (log : List (Action Name)) (R : ℕ → Private → Type 0) (n : ℕ) (ps : List Private) (p : Private) (m : Moved setup log ps n p) → R n p
     → (k : ℕ) → ((q : Private) × (slice_get ps k ≡ Some q) × Half setup log R n k q) → (k ≡ n) ⊎ (k ≡ n → ⊥)
     → (q : Private) × (slice_get m.qs k ≡ Some q) × Half setup log R (suc n) k q
@@ -213,7 +213,7 @@ ways setup log R from =
 
 -- ---- along the list
 
--- a CPU has come to its private state along the list, and this holds of it
+-- a CPU has reached its private state along the list, and this holds of it
 abbrev Came : Setup → List (Action Name) → (ℕ → Private → Type 0) → ℕ → Type 0
 Came setup log R k = (n : ℕ) × (p : Private) × AlongTable setup (cpu_numbered k) n p log × R k p
 
@@ -223,16 +223,16 @@ Turn setup a past k r mid = ((same_cpu (cpu_of_action a) (cpu_numbered k) ≡ fa
     ⊎ ((same_cpu (cpu_of_action a) (cpu_numbered k) ≡ true) × ((cpu_step setup (cpu_numbered k) r past).acts ≡ a ∷ [])
     × ((cpu_step setup (cpu_numbered k) r past).answer ≡ Stepped) × (mid ≡ (cpu_step setup (cpu_numbered k) r past).next))
 
--- from here the newest action and a way behind it lead to where the CPU is to be
+-- from here the newest action and the steps after it lead to the CPU's last state
 abbrev Before : Setup → Action Name → List (Action Name) → (ℕ → Private → Type 0) → ℕ → Private → Type 0
 Before setup a past R k r = (mid : Private) × Turn setup a past k r mid × FromWay setup (a ∷ past) R k mid
 
--- a CPU that did not act stands where it stood
+-- a CPU that did not act is in the same state
 idle : (setup : Setup) (a : Action Name) (past : List (Action Name)) (R : ℕ → Private → Type 0) (k : ℕ) (r : Private) → (k ≡ (cpu_of_action a).0 → ⊥)
     → Before setup a past R k r → FromWay setup (a ∷ past) R k r
 idle setup a past R k r off before = grind arith
 
--- the CPU that acts goes on
+-- the CPU that acts continues
 acted : (setup : Setup) (a : Action Name) (past : List (Action Name)) (R : ℕ → Private → Type 0) → (cpu_of_action a).0 < setup.cpus
     → Reached setup past (Before setup a past R) → Reached setup (a ∷ past) (FromWay setup (a ∷ past) R)
 acted setup a past R within before = let x = before.all d within in by_turn x.0 x.1 x.2.0 x.2.1 x.2.2
@@ -301,7 +301,7 @@ merged setup (a ∷ past) rest R came = by_cpu (merged setup past earlier (Befor
         absurd (cc (ap (λ b. if b then a ∷ own_events cpu_of_action (cpu_of_action a) past else own_events cpu_of_action (cpu_of_action a) past)
         (sym (same_cpu_self (cpu_of_action a))) ∙ rest (cpu_of_action a) beyond))
 
--- where each CPU came along the list
+-- the state that each CPU reached along the list
 abbrev Last : (setup : Setup) (log : List (Action Name)) → IsWorked setup log → ℕ → Private → Type 0
 Last setup log worked k p = (below : k < setup.cpus) × (p ≡ (worked.ran (cpu_numbered k) below).last)
 

@@ -1,4 +1,5 @@
--- One thread and one buffer: what its own sections leave, and what its sections at another buffer do.
+-- One thread and one buffer: what its own sections leave, and what its sections at another buffer
+-- do.
 use Rattle.std.proofs.Common.{◌≡◌, ◌≢◌, Bool, true, false, ◌&&◌, List, Option, Some, None, if◌then◌else◌, refl, sym, ap, ◌∙◌, subst, arith}
 use Rattle.std.proofs.{lemmas.{Bool.{and_parts, and_from, and_right, false_from_ne_true}, Option.same_Some}, Math.Bool.and-true}
 use Rattle.{event_log.specs.declared.ids.{CpuId.CpuId, Tid.Tid, BufId.BufId, LockId.TheVariants.Buffer as AtBuffer}, thread_blocks.specs.Queues.first}
@@ -36,7 +37,7 @@ module _ (b : BufId) (u : Tid) where
       → Pair b u (acquired u o k) g (acquired_visit b visit) (if (answer_of_acquire o).slept then Asleep (At (AtBuffer b) wait_list.Sleepers) else Home)
   own_acquire k g o visit is idle due pair = grind (arith, paired, not_outside, sleeps_here, and_from, buffer_self, grown_list, marked_none, and_right)
 
-  -- the pair of a thread that has the lock and goes on, from its places in the two lines
+  -- the pair of a thread that has the lock and continues, from its places in the two lines
   at_work : (k : Buffer) (g h : Progress) (before progress : Progress) (sends receives : List Tid) → k.busy ≡ Some u → InStep (In b progress) h
       → Pair b u k g (In b before) Home → count_in u sends ≡ marked u (is_lined b Senders (In b progress))
       → count_in u receives ≡ marked u (is_lined b Receivers (In b progress))
@@ -66,7 +67,7 @@ module _ (b : BufId) (u : Tid) where
       → Pair b u (released (waiting u side k)) Begins (Waiting b side) (Asleep (At (AtBuffer b) (list_of side)))
   own_wait k g side pair = grind (arith, own_release, grown_list, and_from, and_right, buffer_self, marked_none)
 
-  -- what the thread's own section makes of the pair, where it is due
+  -- what the thread's own section makes of the pair, if it is due
   own_at : (name : Name) (k : Buffer) (g : Progress) (visit : Visit) → caller_in name ≡ Some u → (k.busy ≡ None → g ≡ Begins) → MayEdit name k g
       → IsDue b name visit → Pair b u k g visit Home
       → Pair b u (edited_buffer name k) (progress_after name k g) (next_visit b name k visit)
@@ -118,7 +119,7 @@ module _ (b : BufId) (u : Tid) where
 
 -- A section elsewhere: the pair of any thread with another buffer.
 
--- a thread that leaves this buffer alone: its visit is at another one, before and after
+-- a thread that does not touch this buffer: its visit is at another one, before and after
 pub record Apart (b : BufId) (visit next : Visit) : Type 0 where
   pub before : names b visit ≡ false
   pub after : names b next ≡ false

@@ -1,5 +1,5 @@
--- More of each thread after any section log: a CPU holds threads only if the machine has it, a thread sleeps at buffers of the machine,
--- and whoever waits stands at its wait.
+-- More of each thread after any section log: a CPU holds threads only if the machine has it, a
+-- thread sleeps at buffers of the machine, and a thread that waits is at its wait.
 use Rattle.std.proofs.Common.{◌≡◌, ◌<◌, Bool, true, false, ◌&&◌, List, [], ◌∷◌, length, Option, Some, option_map, nat_lt}
 use Rattle.std.proofs.{Common.{if◌then◌else◌, refl, sym, ap, subst, arith}, lemmas.{Bool.and_parts, Option.slice_get_within}}
 use Rattle.event_log.specs.declared.ids.{CpuId.CpuId, Tid.Tid, BufId.BufId, LockId.{LockId, TheVariants.{Pending, Buffer as AtBuffer}}}
@@ -24,7 +24,7 @@ IsPlaced setup visit (Asleep (At (AtBuffer b) list)) = (b.0 < length setup.caps)
 IsPlaced setup visit (Asleep (At (Pending d) list)) = ⊥
 IsPlaced setup visit given = Unit {0}
 
--- who is inside a call has a home
+-- a thread inside a call has a home CPU
 abbrev pub HasHome : Setup → Tid → Visit → Type 0
 HasHome setup u Outside = Unit {0}
 HasHome setup u visit = nat_lt u.0 (length setup.homes) ≡ true

@@ -1,5 +1,6 @@
--- Where each thread is, and what it does at which buffer, as the section log tells: two folds over the log. Both are needed only to show
--- that the steps of the table keep the order of a call's sections: a thread that was woken runs again exactly when it may go on.
+-- The place of each thread, and what it does at which buffer, computed from the section log: two
+-- folds over the log. Both are needed only to show that the steps of the table keep the order of a
+-- call's sections: a thread that was woken runs again exactly when it may continue.
 use Rattle.std.proofs.Common.{◌≡◌, ℕ, Bool, true, false, ◌&&◌, ◌==◌, List, [], ◌∷◌, length, Option, Some, None, nat_lt, if◌then◌else◌}
 use Rattle.event_log.specs.declared.ids.{CpuId.CpuId, Tid.Tid, BufId.BufId, LockId.{LockId, TheVariants.{Pending, Buffer as AtBuffer}}, TheConstants.THREADS}
 use Rattle.{event_log.specs.{History.{same_cpu, same_lock}, Sections.Section}, thread_blocks.specs.Queues.same_tid}
@@ -10,8 +11,9 @@ use Rattle.cpu.specs.{Table.{Edits.answer_of_buffer, Setups.{Setup, home_cpu}}, 
 use Rattle.cpu.specs.Wakeups.Order.{progress_after, block_of}
 use Rattle.layer_traits.specs.declared.moves.WaitList.TheVariants as wait_list
 
--- where a thread is in its call, as its sections tell: in none, at a buffer with what it has done there as the owner of the lock, or it waits
--- on a side of the buffer. One that was woken has entered its line, whatever the new owner has done.
+-- where a thread is in its call, according to its sections: in none, at a buffer with what it has
+-- done there as the owner of the lock, or it waits on a side of the buffer. One that was woken has
+-- entered its line, whatever the new owner has done.
 pub data Visit : Type 0 where
   Outside : Visit
   In : (buffer : BufId) (progress : Progress) → Visit
@@ -45,7 +47,7 @@ abbrev pub is_pending : Where → Bool
 is_pending (IsPending q) = true
 is_pending x = false
 
--- it was woken by another CPU and is not at home yet
+-- it was woken by another CPU and is in transit
 abbrev pub is_moved : Where → Bool
 is_moved (Hand c) = true
 is_moved (IsPending q) = true
@@ -75,7 +77,7 @@ starts_here given = false
 abbrev pub is_starting : BufId → Visit → Bool
 is_starting b visit = names b visit && starts_here visit
 
--- it stands in the line of this side
+-- it is in the line of this side
 abbrev pub stands : Side → Visit → Bool
 stands side (In d (HasEntered other)) = is_side side other
 stands side (In d (WasRefused other)) = is_side side other
@@ -120,7 +122,7 @@ waiters_of b name = Asleep (At (AtBuffer b) (list_by name))
 abbrev pub post_by : Bool → CpuId → Where
 post_by here c = if here then Home else Hand c
 
--- a woken thread is at home at once, or in the hand of the CPU that woke it
+-- a woken thread is at `Home` at once, or in the hand of the CPU that woke it
 abbrev pub post_woken : Setup → CpuId → Tid → Where
 post_woken setup c u = post_by (same_cpu (home_cpu setup u) c) c
 
@@ -183,7 +185,7 @@ abbrev pub visit : Setup → Tid → List (Section Name) → Visit
 visit setup u [] = Outside
 visit setup u (s ∷ past) = visit_at s.lock u s.edit (block_of setup s.lock past) (visit setup u past)
 
--- Which section may come.
+-- Which section may occur.
 
 -- the section is the one that is due to its caller
 abbrev pub IsDue : BufId → Name → Visit → Type 0
@@ -199,7 +201,7 @@ IsDue b (SigSend t) (In d (Owes receivers senders)) = d ≡ b
 IsDue b (RelQ t) (In d (Owes receivers senders)) = (d ≡ b) × (receivers ≡ false) × (senders ≡ false)
 IsDue b name visit = ⊥
 
--- a thread is at home on a CPU
+-- the thread's home is this CPU
 abbrev pub is_local : Setup → CpuId → Tid → Bool
 is_local setup c u = same_cpu (home_cpu setup u) c && nat_lt u.0 (length setup.homes)
 
@@ -222,10 +224,11 @@ abbrev pub MayComeAt : Setup → List (Section Name) → CpuId → LockId → Na
 MayComeAt setup past c (AtBuffer b) name = MayComeBy setup past c b name (caller_in name)
 MayComeAt setup past c (Pending d) name = MayComeTo setup past c d name
 
--- the section may come: the table does no other
+-- the section may occur: the table does no other
 abbrev pub MayCome : Setup → List (Section Name) → Section Name → Type 0
 MayCome setup past s = MayComeAt setup past s.cpu s.lock s.edit
 
--- how often a thread stands in a list whose threads bear a mark; a number that is no thread's stands in none
+-- how often a thread is in a list whose threads bear a mark; a number that is no thread's is in
+-- none
 abbrev pub marked : Tid → Bool → ℕ
 marked u mark = one_if (nat_lt u.0 THREADS && mark)

@@ -1,4 +1,5 @@
--- Every state that a system reaches is sound: each section of its log may come where it stands, and each CPU agrees with the log.
+-- Every state that a system reaches is sound: each section of its log may occur after those before
+-- it, and each CPU agrees with the log.
 use Rattle.std.proofs.Common.{◌≡◌, ℕ, zero, suc, ◌+◌, ◌<◌, Bool, true, false, ◌&&◌, List, [], ◌∷◌, ◌++◌, length, slice_get, slice_set, Option, Some, None}
 use Rattle.std.proofs.{Common.{option_map, nat_lt, if◌then◌else◌, refl, sym, ap, ◌∙◌, subst, arith}, lemmas.Bool.{and_right, eq-eqb, ne_eqb, eqb-true}}
 use Rattle.std.proofs.{lemmas.{Bool.{eqb-false, lt-ltb, le-ltb, ltb-true, ltb-false}, List.length-map}, Math.Bool.and-true}
@@ -16,7 +17,7 @@ pub use Rattle.cpu.proofs.Wakeups.EndedThreads.{all_new}
 
 -- Logs of actions.
 
--- an action that ends a section ends one that may come
+-- an action that ends a section ends one that may occur
 abbrev pub IsFair : Setup → List (Action Name) → Action Name → Type 0
 IsFair setup past (Give cpu lock name) = MayComeAt setup (sections_in past) cpu lock name
 IsFair setup past other = Unit {0}
@@ -31,13 +32,13 @@ fair_good setup (Try cpu lock hit ∷ past) fair = fair_good setup past fair.1
 fair_good setup (Give cpu lock name ∷ past) fair =
     good_step setup (sections_in past) (record { cpu = cpu; lock = lock; edit = name }) (fair_good setup past fair.1) fair.0
 
--- the lock at which a CPU in this phase stands
+-- the lock at which a CPU in this phase is
 abbrev pub lock_in : Phase → Option LockId
 lock_in Rests = None
 lock_in (Waits lock) = Some lock
 lock_in (Holds lock) = Some lock
 
--- a CPU agrees with the log, and stands at the lock of the section that is asked of it
+-- a CPU agrees with the log, and is at the lock of the section that it requests
 pub record Ok (setup : Setup) (c : CpuId) (p : Private) (log : List (Action Name)) : Type 0 where
   pub agrees : Agrees setup c p (λ u. visit setup u (sections_in log)) (λ u. post setup u (sections_in log))
   pub settled : IsSettled setup c p
@@ -90,7 +91,7 @@ module _ (setup : Setup) (c : CpuId) (log : List (Action Name)) (fair : IsFairLo
       by_section true is = acted_ok p ok (phase c log) refl
       by_section false is = grind (arith, choice_ok setup c p _ _ ok.agrees ok.settled, acted_ok)
 
--- what a CPU's choice keeps, and its actions keep where its state agrees, its step keeps
+-- what a CPU's choice keeps, and its actions keep if its state agrees, its step keeps
 pub step_keeps : (setup : Setup) (c : CpuId) (p : Private) (log : List (Action Name)) (Q : Private → Type 0) → Ok setup c p log → Q p
     → OfChoice Q (choice setup c p) → ((q : Private) → Agrees setup c q (λ u. visit setup u (sections_in log)) (λ u. post setup u (sections_in log))
     → Q q → Q (acting setup c q log).next) → Q (cpu_step setup c p log).next
@@ -114,7 +115,8 @@ all_beside setup c e p log (a ∷ acts) off does fair ok =
 
 -- A CPU at boot.
 
--- the threads from number i on that are at home on c, by count: u is one of them where it is at its place among the homes
+-- the threads from number i upwards whose home CPU is c, by count: u is one of them if it is at its
+-- place among the homes
 homed_before : (c : CpuId) (homes : List CpuId) (i : ℕ) (u : Tid) → u.0 < i → count_in u (home_threads_from c homes i) ≡ 0
 homed_before c [] i u before = refl
 homed_before c (home ∷ homes) i u before = by_test (same_cpu home c) (homed_before c homes (i + 1) u (omega (arith, before)))
@@ -147,7 +149,7 @@ pub record Sound (setup : Setup) (s : Whole) : Type 0 where
 pub same_private : (p q : Private) → Some p ≡ Some q → p ≡ q
 same_private p q is = cc
 
--- what stands in a list after one of its items was set
+-- the elements of a list after one of its items was set
 pub get_set : (xs : List Private) (i j : ℕ) (x y : Private) → slice_get (slice_set xs i x) j ≡ Some y → i ≡ j → x ≡ y
 get_set (z ∷ xs) zero zero x y is same = same_private x y is
 get_set (z ∷ xs) (suc i) (suc j) x y is same = get_set xs i j x y is (omega (arith, same))

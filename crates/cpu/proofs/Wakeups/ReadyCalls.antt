@@ -1,4 +1,4 @@
--- A call that is ready, on a CPU alone, returns after just so many steps.
+-- A call that is ready returns after exactly so many steps of its CPU, if no other CPU steps.
 use Rattle.std.proofs.Common.{◌≡◌, ℕ, ◌+◌, ◌<◌, ◌≤◌, Bool, true, false, ◌&&◌, List, [], ◌∷◌, ◌++◌, length, Option, Some, None, if◌then◌else◌, refl}
 use Rattle.std.proofs.{Common.{sym, ap, ◌∙◌, subst, arith, length-append}, lemmas.Bool.{and_from, cases_lt, lt-ltb, or_right}}
 use Rattle.event_log.specs.declared.{ids.{CpuId.CpuId, Tid.Tid, BufId.BufId, LockId.TheVariants.Buffer as AtBuffer, TheConstants.THREADS}, entries.Kind.Kind}
@@ -56,7 +56,8 @@ module _ (setup : Setup) (room : ℕ) (s : Whole) (c : CpuId) (p : Private) (t :
     block = block;
   }
 
-  -- after so many steps the call has returned, with an entry of this kind; one step before it was under way
+  -- after so many steps the call has returned, with an entry of this kind; one step earlier it was
+  -- under way
   abbrev IsBack : ℕ → Kind → BufId → Type 0
   IsBack n e b = HasReturned (steps_by setup c n s) c p t e b × ((m : ℕ) → m + 1 ≡ n → IsInCall (steps_by setup c m s) c t)
 
@@ -64,14 +65,14 @@ module _ (setup : Setup) (room : ℕ) (s : Whole) (c : CpuId) (p : Private) (t :
       → Returned setup c t s n (p.trace ++ entry ∷ []) → IsBack n e b
   told n e b entry is_of back = grind arith
 
-  -- nobody is due beside a free lock
+  -- no thread is due beside a free lock
   calm : (b : BufId) (k : Buffer) → block_at setup (AtBuffer b) s.log ≡ Some (OfBuffer k) → k.busy ≡ None → IsCalm k
   calm b k block free =
       let awake : IsAwake k (progress setup (AtBuffer b) (sections_in s.log)) =
       buffer_awake setup (sections_in s.log) (systems_keep_order setup room s reached) b k block in
       subst (Fits k) (awake.idle free).0 awake.fits
 
-  -- where the first of a line may go on, a signal wakes it if it waits
+  -- if the first of a line may continue, a signal wakes it if it waits
   woken_is : (waits can : Bool) (o : Option Tid) → can ≡ true → (if waits && can then o else None) ≡ (if waits then o else None)
   woken_is waits can o on = grind arith
 
@@ -89,7 +90,7 @@ module _ (setup : Setup) (room : ℕ) (s : Whole) (c : CpuId) (p : Private) (t :
   ends_at : (n m : ℕ) (e : Kind) (b : BufId) → n ≡ m → IsBack n e b → IsBack m e b
   ends_at n m e b same back = subst (λ i. IsBack i e b) same back
 
-  -- A call that stands in its line, which was empty.
+  -- A call that is in its line, which was empty.
 
   abbrev queued : Group → BufId → Message → ℕ → Call
   queued asks b m position = record (new_call asks b m) { position = position; stage = Tries }
@@ -215,7 +216,7 @@ module _ (setup : Setup) (room : ℕ) (s : Whole) (c : CpuId) (p : Private) (t :
         let begin = begins_as Closes b (stands_at setup p t) refl at_call in
         closed_back begin.0 begin.1
 
-  -- where both lines wait beside a buffer that is not due to either, nothing fits in
+  -- if both lines wait at a buffer that serves neither, it has no room for an item
   pub no_room : (k : Buffer) → IsCalm k → 18 < steps_to_return setup c CloseKind k → k.capacity ≡ 0
   no_room k nobody more = grind (arith, cases_lt, refuted, lt-ltb, most_moved)
 

@@ -1,4 +1,5 @@
--- What a section leaves of the agreement: the caller's CPU moves on, and all others stay in agreement.
+-- What a section leaves of the agreement: the caller's CPU moves on, and all others stay in
+-- agreement.
 use Rattle.std.proofs.Common.{◌≡◌, ℕ, ◌+◌, ◌<◌, Bool, true, false, ◌&&◌, List, [], ◌∷◌, ◌++◌, length, Option, Some, None, is_some, nat_lt, if◌then◌else◌, refl}
 use Rattle.std.proofs.{Common.{sym, ap, ◌∙◌, subst, arith}, lemmas.Bool.{and_from, and_left, and_right, false_from_ne_true}}
 use Rattle.event_log.specs.{declared.ids.{CpuId.CpuId, Tid.Tid}, History.same_cpu, Messages.Message, Runs.{Group, Sends, Receives}}
@@ -53,7 +54,7 @@ module _ (setup : Setup) (c : CpuId) where
       → Agrees setup c (settled setup p) T P × IsSettled setup c (settled setup p)
   agrees_settled p T P agrees done = settled_in p T P agrees done p.hand p.current refl refl
 
--- The stage of a call, and what its section tells.
+-- The stage of a call, and what its section reports.
 
 pub section_caller : (t : Tid) (call : Call) (stage : Stage) → caller_in (section_due t call stage) ≡ Some t
 section_caller t call stage = grind arith
@@ -63,7 +64,8 @@ abbrev pub is_release : Stage → Bool
 is_release Releases = true
 is_release stage = false
 
--- the state after a section was told: all but the call is as it was, and the call stands where its next visit says
+-- the state after the result of a section: all except the call is as it was, and the call is where
+-- its next visit says
 pub record Recorded (p q : Private) (t : Tid) (next : Visit) (ends : Bool) : Type 0 where
   pub same : Same p q t
   pub call : visit_of_call (thread_at q t).call ≡ next
@@ -231,7 +233,7 @@ module _ (setup : Setup) (c : CpuId) (p : Private) (T : Tid → Visit) (P : Tid 
       → Agrees setup c (record p { ready = p.ready ++ list }) T (λ u. post_pending setup c u TakeAll (P u))
   agrees_drained list counts known = grind (arith, agrees, count_append, and_right, and_from, false_from_ne_true, refuted, drained_hand, counts, known)
 
--- the current thread yields: it stands behind those that are ready, and nobody runs
+-- the current thread yields: it is queued after the ready threads, and no thread runs
 pub agrees_yielded : (setup : Setup) (c : CpuId) (p : Private) (T : Tid → Visit) (P : Tid → Where) → Agrees setup c p T P → (t : Tid) → p.current ≡ Some t
     → (guest : State) → Agrees setup c (record (with_state p t guest) { current = None; ready = p.ready ++ t ∷ [] }) T P
 agrees_yielded setup c p T P agrees t runs_now guest = grind (arith, moved, same_tid_sym, count_append)

@@ -39,12 +39,12 @@ front_of u (t ∷ line) some = (t, refl)
 side_self : (side : Side) → is_side side side ≡ true
 side_self side = grind arith
 
--- the call whose visit is a wait has to ask for the lock again
+-- the call whose visit is a wait must acquire the lock again
 waits_again : (call : Call) (b : BufId) (side : Side) → visit_of_call (Some call) ≡ Waiting b side
     → (is_before call.stage ≡ true) × (call.buffer ≡ b) × (side_of_group call.asks ≡ side) × (call.stage ≡ AcquiresAgain)
 waits_again call b side is = grind (arith, refuted)
 
--- an instruction asks for one effect
+-- an instruction requests one effect
 same_effect : (line : Instruction) (s : State) (a x : Group) (b d : BufId) (m n : Message)
     → IsNextEffect line s a b m → IsNextEffect line s x d n → (a ≡ x) × (b ≡ d)
 same_effect line s a x b d m n one other = grind arith
@@ -85,7 +85,7 @@ module _ (setup : Setup) (s : Whole) (homes : HomesExist setup) (kept : SystemIn
           let none = good.pending (home_cpu setup u) u [] (quiet.pending (home_cpu setup u) (homes.1 u live.known)) in
           absurd (grind (arith, none, same_cpu_self))
 
-  -- whoever has a visit at a buffer is live
+  -- a thread that has a visit at a buffer is live
   live_at : (u : Tid) (b : BufId) → names b (visit setup u (sections_in s.log)) ≡ true → (p : Private) × IsLive setup s p u
   live_at u b on =
       let known = ltb-true u.0 (length setup.homes) (grind (arith, on, kept.placed.callers u)) in
@@ -97,7 +97,7 @@ module _ (setup : Setup) (s : Whole) (homes : HomesExist setup) (kept : SystemIn
       refuted (ap (names b) out) on) in
       (cpu.0, record { known = known; here = cpu.1; alive = alive })
 
-  -- nobody owns a lock
+  -- no thread owns a lock
   unowned : (b : BufId) (k : Buffer) → block_at setup (AtBuffer b) s.log ≡ Some (OfBuffer k) → k.busy ≡ None
   unowned b k block = by_owner k.busy refl
     where

@@ -1,5 +1,6 @@
--- One thread and one buffer: that its places at the buffer are those that its post and its visit say, by count, and that it owns the
--- lock exactly where its visit says. Everything here speaks of plain values; the log comes later.
+-- One thread and one buffer: its places at the buffer are, by count, those that its post and its
+-- visit give, and it owns the lock exactly if its visit says so. Everything here is about plain
+-- values; the log follows later.
 use Rattle.std.proofs.Common.{◌≡◌, ◌<◌, ◌≤◌, Bool, true, false, ◌&&◌, List, [], ◌∷◌, Option, Some, None, nat_lt, if◌then◌else◌, refl, sym, ap, ◌∙◌, subst}
 use Rattle.std.proofs.{Common.arith, lemmas.{Bool.{eq-eqb, eqb-true, and_parts, and_right}, Option.same_Some}}
 use Rattle.event_log.specs.{declared.ids.{CpuId.CpuId, Tid.Tid, BufId.BufId, LockId.TheVariants.Buffer as AtBuffer, TheConstants.THREADS}, Messages.Message}
@@ -16,14 +17,15 @@ use Rattle.cpu.proofs.Wakeups.{Lists.{refuted, first_is}, PostsAndVisits.{Visit,
 use Rattle.cpu.proofs.Wakeups.PostsAndVisits.{is_caller, post_by, post_woken, post_moved, visit_moved, marked, list_of}
 use Rattle.layer_traits.specs.declared.moves.WaitList.TheVariants as wait_list
 
--- a thread and a buffer's lock: by who owns it, the lists of its sleepers and of those who wait to send and to receive, and the two lines
+-- a thread and a buffer's lock: its owner, the lists of its sleepers and of the threads that wait
+-- to send and to receive, and the two lines
 pub record PairOf (b : BufId) (u : Tid) (busy : Option Tid) (asleep senders_in receivers_in sends receives : List Tid) (g : Progress) (visit : Visit)
     (post : Where) : Type 0 where
-  -- who owns the lock is inside and awake, and the owner's progress is what its visit says
+  -- the lock's owner is inside and awake, and its progress is what its visit says
   pub owner : busy ≡ Some u → (is_inside b visit ≡ true) × InStep visit g × (sleeps_in b wait_list.Sleepers post ≡ false)
-  -- who is inside, and does not sleep at the lock, owns it
+  -- a thread that is inside, and does not sleep at the lock, owns it
   pub inside : is_inside b visit ≡ true → sleeps_in b wait_list.Sleepers post ≡ false → busy ≡ Some u
-  -- who sleeps at the lock has just asked for it
+  -- a thread that sleeps at the lock has done nothing except acquire it
   pub starts : sleeps_in b wait_list.Sleepers post ≡ true → is_starting b visit ≡ true
   pub sleepers : count_in u asleep ≡ marked u (sleeps_in b wait_list.Sleepers post)
   pub senders : count_in u senders_in ≡ marked u (sleeps_in b wait_list.Senders post)
@@ -77,15 +79,15 @@ other_joined u t list other = grind (arith, count_append u list (t ∷ []), same
 pub first_left : (u : Tid) (list : List Tid) → count_in u list ≤ 1 → count_in u (rest list) ≡ (if is_thread u (first list) then 0 else count_in u list)
 first_left u list most = grind (arith, count_front u list)
 
--- whoever is first stands in the list
+-- the first of a list is in the list
 pub front_counted : (u : Tid) (list : List Tid) → is_thread u (first list) ≡ true → 0 < count_in u list
 front_counted u list is = let one : one_if (is_thread u (first list)) ≡ 1 = ap one_if is in omega (arith, one, count_front u list)
 
--- a signal has taken out whom it woke
+-- a signal has taken out the thread that it woke
 pub signal_left : (u : Tid) (woke : Option Tid) (list : List Tid) → count_in u (without_any woke list) ≡ (if is_thread u woke then 0 else count_in u list)
 signal_left u woke list = grind (arith, count_without)
 
--- whom a signal wakes was waiting
+-- the thread that a signal wakes was waiting
 woken_waits : (u : Tid) (line list : List Tid) (can : Bool)
     → is_thread u (if front_stands_in line list && can then first line else None) ≡ true → 0 < count_in u list
 woken_waits u [] list can woke = grind arith
@@ -103,7 +105,7 @@ buffer_true b d same = ap buffer_numbered (eqb-true b.0 d.0 same)
 pub woken_awake : (b : BufId) (list : WaitList) (here : Bool) (c : CpuId) → sleeps_in b list (post_by here c) ≡ false
 woken_awake b list here c = grind arith
 
--- whoever sleeps in a list of the buffer sleeps there, and in no other list
+-- a thread that sleeps in a list of the buffer sleeps there, and in no other list
 pub sleeps_here : (b : BufId) (list : WaitList) → sleeps_in b list (Asleep (At (AtBuffer b) list)) ≡ true
 sleeps_here b list = wait_channel_here (AtBuffer b) list
 
@@ -120,7 +122,7 @@ module _ (b : BufId) (u : Tid) (k : Buffer) (g : Progress) (visit : Visit) (post
   sleeps_so : (list : WaitList) → (nat_lt u.0 THREADS ≡ true) × (sleeps_in b list post ≡ true) → (nat_lt u.0 THREADS ≡ true) × (sleeps_at b post ≡ true)
   sleeps_so list at = grind (arith, and_parts)
 
-  -- whoever is woken sleeps at the buffer, and its number is a thread's
+  -- a thread that is woken sleeps at the buffer, and its number is a thread's
   pub woken_sleeps : (name : Name) → is_thread u (answer_of_buffer name k).woke ≡ true → (nat_lt u.0 THREADS ≡ true) × (sleeps_at b post ≡ true)
   woken_sleeps (SigRecv t) is = sleeps_so wait_list.Receivers (due_waits Receivers is)
   woken_sleeps (SigSend t) is = sleeps_so wait_list.Senders (due_waits Senders is)
@@ -141,7 +143,7 @@ module _ (setup : Setup) (c : CpuId) (b : BufId) (u t : Tid) (other : same_tid t
   other_acquire : (k : Buffer) (g : Progress) (o : Option Tid) → k.busy ≡ o → Pair b u k g visit post → Pair b u (acquired t o k) g visit post
   other_acquire k g o is pair = grind (arith, paired, other_joined)
 
-  -- the lines and the owner's progress alone are changed
+  -- only the lines and the owner's progress are changed
   with_lines : (k : Buffer) (g h : Progress) → k.busy ≡ Some t → Pair b u k g visit post
       → (sends receives : List Tid) → count_in u sends ≡ count_in u k.send_line → count_in u receives ≡ count_in u k.receive_line
       → Pair b u (record k { send_line = sends; receive_line = receives }) h visit post

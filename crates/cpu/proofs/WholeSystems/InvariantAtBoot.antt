@@ -79,7 +79,7 @@ pub system_sounds : {X N : Type 0} (IsOne : X → Type 0) (number : X → CpuId)
     → IsSystem IsOne number ActsFor MayHold IsStepwise acts cpus homes seen room taken left Sound2
 system_sounds IsOne number ActsFor MayHold IsStepwise acts cpus homes seen room taken left Sound Sound2 goes is = grind arith
 
--- the elements behind the first n, and the one in front of them
+-- the elements after the first n, and the one before them
 drop_next : {X : Type 0} (xs : List X) (n : ℕ) → n < length xs → drop 1 (drop n xs) ≡ drop (suc n) xs
 drop_next (x ∷ xs) (suc n) within = drop_next xs n (omega arith)
 drop_next xs n within = grind arith
@@ -92,7 +92,7 @@ pub drop_first : {X Y : Type 0} (f : X → Y) (xs : List X) (n : ℕ) (d : X) (e
 drop_first f (x ∷ xs) (suc n) d e within = drop_first f xs n d e (omega arith)
 drop_first f xs n d e within = grind arith
 
--- what stands in a list that grew by one stood there before, or is the last
+-- an element of a list that grew by one was there before, or is the last
 pub at_end : {X : Type 0} (P : ℕ → X → Type 0) (xs : List X) (y : X) → ((k : ℕ) (x : X) → slice_get xs k ≡ Some x → P k x) → P (length xs) y
     → (k : ℕ) (x : X) → slice_get (xs ++ y ∷ []) k ≡ Some x → P k x
 at_end P [] y before here zero x at = let same : y ≡ x = cc in subst (λ z. P 0 z) same here
@@ -100,7 +100,7 @@ at_end P [] y before here (suc k) x at = absurd cc
 at_end P (z ∷ xs) y before here zero x at = before 0 x at
 at_end P (z ∷ xs) y before here (suc k) x at = at_end (λ j w. P (suc j) w) xs y (λ j w there. before (suc j) w there) here k x at
 
--- where each element shows what stands at its number, the list shows that list
+-- if each element shows the item at its number, the list shows that list
 pub shows_all : {X Z : Type 0} (f : X → Z) (xs : List X) (zs : List Z) (d : Z) → length xs ≡ length zs
     → ((k : ℕ) (x : X) → slice_get xs k ≡ Some x → f x ≡ slice_index_or zs k d) → map f xs ≡ zs
 shows_all f [] [] d count each = refl

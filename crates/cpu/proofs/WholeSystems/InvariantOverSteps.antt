@@ -1,4 +1,4 @@
--- One step of one CPU of a system keeps what always holds of the system.
+-- One step of one CPU of a system keeps the invariant of the system.
 use Rattle.std.proofs.Common.{◌≡◌, ◌≢◌, ◌⊎◌, inl, inr, ℕ, ◌+◌, ◌<◌, ◌≤◌, List, [], ◌∷◌, ◌++◌, length, Option, Some, refl, ap, sym, ◌∙◌, subst, arith, slice_set}
 use Rattle.std.{proofs.lemmas.{Bool.{cases_eq, ne_eqb}, List.{length-append, length-set}, Option.slice_get_within}, specs.Prelude.slice_get}
 use Rattle.std.specs.List.{AllByRecursion}
@@ -9,7 +9,7 @@ use Rattle.cpu.specs.{declared.guests.Guest.Guest, Cpus.{ActsGrow, IsCpu, SeenGr
 use Rattle.cpu.proofs.{CpuSteps.{CpuStates.valid_cpu, PassSteps.seen_stays}, ListFacts.{GuestLists.cpu_same, ListReads.{all_both, all_by, all_left, all_right}}}
 use Rattle.cpu.proofs.{ListFacts.ListReads.{set_else, set_there}, StepTable.ReachedSystems.Observed}
 
--- where the holder acts for each CPU that there may be, no effect is foreign
+-- if the holder acts for each CPU that may exist, no effect is the environment's
 pub no_others : (ActsFor : CpuId → Type 0) (others : List Entry) → ((c : CpuId) → c.0 < CPUS → ActsFor c) → AllByRecursion (λ e. e.cpu.0 < CPUS) others
     → AreForeign ActsFor cpu_of_entry others → others ≡ []
 no_others ActsFor [] all known foreign = refl
@@ -48,7 +48,7 @@ phase_stays ActsFor k c old new other acts grows =
     ap (λ (l : List (Action _)). phase c l) grows.is
     ∙ phase_others c grows.mine (grows.others ++ old) (acts_of k c grows.mine other grows.own) ∙ phase_others c grows.others old (grows.foreign c acts)
 
--- another CPU's step leaves what always holds of a CPU
+-- another CPU's step leaves the invariant of a CPU
 pub cpu_frame : (homes homes2 : List CpuId) (buffers buffers2 : ℕ) (seen seen2 : List Entry) (own : Threads) (call_states : List CallState)
     (under_way : Option UnderWay) (number : CpuId) (guests : List (Option Guest)) (trace : List Entry) (limit capacity : ℕ) → homes2 ≡ homes
     → buffers2 ≡ buffers → of_cpu number seen2 ≡ of_cpu number seen → IsCpu homes buffers seen own call_states under_way number guests trace limit capacity
@@ -112,9 +112,11 @@ system_step One Two number Acts1 Acts2 Holds1 Holds2 IsStepwise acts1 acts2 cpus
         let inside : j < length cpus = slice_get_within cpus j x (sym (set_else cpus k j y other) ∙ at) in
         record { number_is = before.number_is; holds = there j x other (omega (arith, inside, is.most)) before }
 
--- What a machine M and the CPUs X that work in it tell of themselves: whether a CPU's part fits the machine, its number and that of its
--- part, what it shows, its call states, what it is doing, and for how many entries its trace has memory; of the machine for whom it acts, who may hold
--- a lock, whether it does one action a step, what it tells, and how much room is left; and what else is asked of a CPU and of the system.
+-- What a machine M and the CPUs X that work in it report. Of a CPU: whether its part agrees with
+-- the machine, its number and that of its part, what it shows, its call states, what is under way,
+-- and how many entries its trace has memory for. Of the machine: for which CPUs it acts, which may
+-- hold a lock, whether it does one action a step, what it reports, and how much room is left. Then
+-- the further conditions on a CPU and on the system.
 pub record Works (M X : Type 0) : Type 1 where
   pub Fits : X → M → Type 0
   pub number : X → CpuId
@@ -132,7 +134,7 @@ pub record Works (M X : Type 0) : Type 1 where
   pub Sound : M → List X → ℕ → ℕ → Type 0
 
 module _ {M X : Type 0} (of : Works M X) where
-  -- what always holds of one CPU
+  -- the invariant of one CPU
   abbrev Keeps : M → X → Type 0
   Keeps m x = IsCpu (of.told m).homes (length (of.told m).caps) (of.told m).seen (of.shown x).own (of.call_states x) (of.under_way x) (of.number x)
       (of.shown x).guests (of.shown x).trace (of.shown x).limit (of.capacity x)

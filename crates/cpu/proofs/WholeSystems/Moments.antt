@@ -1,4 +1,5 @@
--- At each moment of a system over a layer of message calls its calls have one order, and a step lets it go on.
+-- At each moment of a system over a layer of message calls its calls have one order, which a step
+-- extends.
 use Rattle.std.proofs.{lemmas.{List.{append-nil, length-reverse, length-map, reverse-append}, Option.same_Some}, Common.{◌≡◌, ℕ, ◌<◌, ◌^◌, List, [], ◌++◌}}
 use Rattle.std.{proofs.Common.{length, map, reverse, Option, Some, ap, sym, ◌∙◌, subst, arith}, specs.{Prelude.slice_get, List.AllByRecursion}}
 use Rattle.layer_traits.specs.{Blocks.{Capacities.caps_in, BufferEffects.MayTakeEffect, QueueBlocks.homes_in}, declared.call_layers.CallLayer.Ghosts}
@@ -32,7 +33,7 @@ calls_stay c old new order cpus = record {
   others = λ k other. ap (λ (l : List CpuShown). slice_get l k) cpus;
 }
 
--- effects that grow by at most one of this CPU, where the holder acts for each
+-- effects that grow by at most one of this CPU, if the holder acts for each
 pub order_grows : (ActsFor : CpuId → Type 0) (c : CpuId) (old new : List Entry) → ((d : CpuId) → d.0 < CPUS → ActsFor d)
     → AllByRecursion (λ e. e.cpu.0 < CPUS) new → SeenGrows ActsFor c old new → OrderGrows c (reverse old) (reverse new)
 order_grows ActsFor c old new acts known grows = record {
@@ -53,7 +54,7 @@ order_grows ActsFor c old new acts known grows = record {
 
 module _ {P L M : Type 0} (I : Ghosts P L M) (laws : MachineLaws I) (owner : M → BufId → Option Tid) (threads : ℕ) (m : M) (cpus : List (Cpu P M))
     (room taken : ℕ) (is : Holds (works_by I owner threads) m cpus room taken) where
-  -- each CPU has what always holds of it
+  -- each CPU has its invariant
   pub each_has : (k : ℕ) (p : CpuShown) → slice_get (map (shown_by I) cpus) k ≡ Some p
       → Has (homes_in (I.opening m)) (length (caps_in (I.opening m))) (I.seen m) (I.moves m) k p
   each_has = cpus_have I m cpus is.each (λ part fits. laws.stands part m fits)

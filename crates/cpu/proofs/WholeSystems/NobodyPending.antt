@@ -1,4 +1,4 @@
--- When nobody is pending: by the places of the threads, and by the pending queues.
+-- When no thread is pending: in terms of the places of the threads, and of the pending queues.
 use Rattle.std.proofs.Common.{◌≡◌, ◌≢◌, inl, inr, ℕ, ◌+◌, ◌<◌, Bool, true, false, ◌||◌, List, [], ◌∷◌, length, refl, ap, sym, ◌∙◌, arith}
 use Rattle.std.proofs.lemmas.{Bool.{and_right, cases_eq}, Option.{slice_get_within, same_Some}}
 use Rattle.{event_log.{specs.declared.ids.{CpuId.CpuId, Tid.Tid}, proofs.Same.same_cpu_self}, thread_blocks.{specs.Queues.is_in, proofs.Members.same_tid_self}}
@@ -11,7 +11,7 @@ use Rattle.layer_traits.specs.declared.calls.Place.TheVariants as place
 pub true_is_not_false : {A : Type 0} (b : Bool) → b ≡ true → b ≡ false → A
 true_is_not_false b on off = absurd (cc (on, off))
 
--- A thread that a CPU has of its own is in no pending queue.
+-- A thread in a CPU's scheduling state is in no pending queue.
 module _ (homes : List CpuId) (c : CpuId) (moves : List Step) (own : Threads) (legal : AreMoves homes moves) (stands : Stands homes c moves own) (t : Tid)
     (d : CpuId) (pends : where_is homes moves t ≡ IsPending d) where
   pub no_own_place : (p : Place) → IsOwnPlace c own t p → ⊥
@@ -22,14 +22,14 @@ abbrev pub is_pending : Place → Bool
 is_pending (place.Pending c) = true
 is_pending other = false
 
--- a thread's place is a pending queue exactly where its moves left it in one
+-- a thread's place is a pending queue exactly if its moves left it in one
 pub place_pends : (s : Shown) (t : Tid) (p : Place) → MovesAgree s → IsPlaceOf s t p → (d : CpuId) → where_is s.homes s.moves t ≡ IsPending d
     → is_pending p ≡ true
 place_pends s t p agree (inl (k, q, at, own)) d pends =
     absurd (no_own_place s.homes (cpu_at k) s.moves q.own agree.lawful (agree.stands k q at) t d pends p own)
 place_pends s t p agree (inr told) d pends = ap is_pending (sym (same_Some (place.Pending d) p (sym (ap queue_place pends) ∙ told)))
 
--- all pending queues are empty exactly where nobody is in one
+-- all pending queues are empty exactly if no thread is in one
 pub empty_of : (s : Shown) → MovesAgree s → ((t : Tid) → t.0 < length s.homes → (d : CpuId) → where_is s.homes s.moves t ≢ IsPending d) → AllQueuesEmpty s
 empty_of s agree nobody c exists = go (pending_by s.moves c) refl
   where

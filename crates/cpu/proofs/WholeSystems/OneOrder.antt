@@ -1,4 +1,5 @@
--- What always holds of a system says that its calls have one order, that each thread follows its program, and that entries stay at home.
+-- The invariant of a system implies that its calls have one order, that each thread follows its
+-- program, and that entries are on home CPUs.
 use Rattle.std.proofs.Common.{◌≡◌, ◌⊎◌, ℕ, zero, suc, ◌<◌, ◌==◌, Bool, true, false, List, [], ◌∷◌, ◌++◌, length, map, reverse, Option, Some, refl, ap, sym, ◌∙◌}
 use Rattle.std.proofs.{Common.{subst, arith, slice_set}, lemmas.{Bool.{cases_eq, cases_lt, eq-eqb, ne_eqb}, List.{append-nil, reverse-append, reverse-reverse}}}
 use Rattle.std.proofs.lemmas.{List.{length-map, length-set, get_or_past, get_or-set_same, get_or-set_other, Elements.filter-append}, Option.slice_get-get_or}
@@ -10,7 +11,7 @@ use Rattle.{layer_traits.{specs.Threads.{OnePlace.cpu_at, Places.{Stands, Step}}
 use Rattle.cpu.specs.{declared.guests.GuestStage.{GuestStage, TheVariants.{Idle, Begun, Done, Ended}}, Guests.{HasComeIn, is_ended}, Cpus.{IsCpu, IsOfHome}}
 use Rattle.cpu.{specs.{Cpus.{guest_at, of_cpu, of_thread}, Claims.{CpuShown, Keeps, listed}}, proofs.ListFacts.ListReads.{all_reversed, listed_there, there_is}}
 
--- what a test picks of a list turned round
+-- what a test selects from a reversed list
 pub filter_reversed : {X : Type 0} (p : X → Bool) (xs : List X) → filter p (reverse xs) ≡ reverse (filter p xs)
 filter_reversed p [] = refl
 filter_reversed p (x ∷ xs) =
@@ -23,7 +24,7 @@ filter_reversed p (x ∷ xs) =
 
 -- What is closed.
 
--- a buffer is told to be closed where the effects have closed it, in their order
+-- a buffer is reported closed exactly if the effects have closed it, in their order
 pub closed_by_order : (seen : List Entry) (n b : ℕ) → b < n → slice_index_or (listed (is_closed seen) 0 n) b false ≡ is_closed (reverse seen) b
 closed_by_order seen n b within = grind (arith, listed_there, count_reversed)
 
@@ -33,7 +34,7 @@ closed_by_order seen n b within = grind (arith, listed_there, count_reversed)
 cpu_first : (e : Entry) (es : List Entry) → of_cpu (cpu_at e.cpu.0) (e ∷ es) ≡ e ∷ of_cpu (cpu_at e.cpu.0) es
 cpu_first e es = let same : (e.cpu.0 == e.cpu.0) ≡ true = eq-eqb e.cpu.0 e.cpu.0 refl in rw same refl
 
--- entries of which each CPU's trace has its own, in their order, are an order of the traces
+-- entries whose projection on each CPU is the CPU's trace are an order of the traces
 pub order_interleaves : (es : List Entry) (traces : List (List Entry)) → ((k : ℕ) → k < length traces → slice_index_or traces k [] ≡ of_cpu (cpu_at k) es)
     → AllByRecursion (λ e. e.cpu.0 < length traces) es → IsInterleaving traces es
 order_interleaves [] traces each known = grind (arith, cases_lt, get_or_past)

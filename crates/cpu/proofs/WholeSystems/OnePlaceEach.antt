@@ -1,4 +1,4 @@
--- What always holds of a system says that each thread stands in exactly one place.
+-- The invariant of a system implies that each thread is in exactly one place.
 use Rattle.std.proofs.{Common.{◌≡◌, ℕ, ◌+◌, ◌<◌, ◌==◌, false, List, length, Option, Some, None, refl, ap, sym, ◌∙◌, subst, arith}, lemmas.Bool.{eq-eqb, ne_eqb}}
 use Rattle.std.specs.Prelude.{slice_get, slice_index_or}
 use Rattle.{event_log.specs.declared.ids.{BufId.BufId, CpuId.CpuId, LockId.TheVariants.Buffer, Tid.Tid}, layer_traits.specs.declared.moves.WaitList.WaitList}
@@ -31,7 +31,7 @@ module _ (n : ℕ) (homes : List CpuId) (moves : List Step) (lines : BufId → W
   unfolding times_at
   by_times b within = grind arith
 
-  -- over all buffers a thread stands once among the sleepers where it sleeps, and else never
+  -- over all buffers a thread is once among the sleepers if it sleeps, and otherwise never
   pub sleeping_is : total (λ b. in_waiters t (waiters_by lines b)) n ≡ one_if (is_asleep (where_is homes moves t))
   sleeping_is =
       grind (arith, total_same, by_times, go)
@@ -43,7 +43,7 @@ module _ (n : ℕ) (homes : List CpuId) (moves : List Step) (lines : BufId → W
           rw known.1 (total_one d.0 (λ b. times_at b (Some (At (Buffer d) line))) n known.2 (times_here d line) (λ b other. times_else d line b other))
       go w is = total_none (λ b. times_at b None) n (λ b within. times_none b)
 
--- each thread of a system stands in exactly one place
+-- each thread of a system is in exactly one place
 pub once_of : (s : Shown) (n : ℕ) (lines : BufId → WaitList → List Tid) → s.waiters ≡ listed (waiters_by lines) 0 n → WaitListsAgree n s.homes s.moves lines
     → ((t : Tid) (home : CpuId) → home_of s.homes t ≡ Some home → home.0 < length s.cpus) → AreMoves s.homes s.moves
     → ((k : ℕ) (p : CpuShown) → slice_get s.cpus k ≡ Some p → Stands s.homes (cpu_at k) s.moves p.own) → StandsOnce s

@@ -1,4 +1,5 @@
--- What the machine and the parts of a system tell of its buffers and of where its threads stand: some of them tells.
+-- What the machine and the parts of a system report of its buffers and of the places of its
+-- threads: some of them reports it.
 use Rattle.std.proofs.{Common.{◌≡◌, ℕ, ◌+◌, ◌<◌, ◌≤◌, List, length, Option, Some, None, refl, ◌∙◌, subst, arith}, lemmas.Bool.cases_eq}
 use Rattle.std.{proofs.lemmas.{Bool.cases_lt, Option.{slice_get_read, slice_get_within}}, specs.Prelude.{slice_get, slice_index_or}}
 use Rattle.event_log.specs.{declared.{entries.Entry.Entry, ids.{CpuId.CpuId, Tid.Tid, TheConstants.CPUS}}, Actions.Action}
@@ -17,7 +18,7 @@ pub up_to : {X : Type 0} (P : X → Type 0) (xs : List X) (i : ℕ) (y : X) → 
     → ((k : ℕ) (x : X) → k < i → slice_get xs k ≡ Some x → P x) → (k : ℕ) (x : X) → k < i + 1 → slice_get xs k ≡ Some x → P x
 up_to P xs i y within reads here before k x below at = grind (arith, cases_eq, slice_get_read)
 
--- and of all of them once it has come to the end
+-- and of all of them at the end of the loop
 pub up_to_end : {X : Type 0} (P : X → Type 0) (xs ys : List X) (i : ℕ) → ys ≡ xs → length ys ≤ i → ((k : ℕ) (x : X) → k < i → slice_get ys k ≡ Some x → P x)
     → (k : ℕ) (x : X) → slice_get xs k ≡ Some x → P x
 up_to_end P xs ys i same over before k x at = grind (arith, slice_get_within)
@@ -32,11 +33,11 @@ module _ {P L M : Type 0} (I : Ghosts P L M) (m : M) (cpus : List (Cpu P M))
     (holders : (c : CpuId) → length cpus ≤ c.0 → c.0 < CPUS → I.MayHold m c → ⊥) where
   module _ {A : Type 0} {here : P → Option A} {home : Option A} {truth : A}
       (told : IsObservedAs (λ (p : P). I.Fits p m) (λ (p : P). I.cpu_of p) (I.MayHold m) here home truth) (ys : List (Cpu P M)) (i : ℕ) (same : ys ≡ cpus) where
-    -- what a part of the system's tells is true
+    -- what a part of the system reports is true
     pub told_here : (x : Cpu P M) (answer : A) → i < length ys → x ≡ slice_index_or ys i x → here x.part ≡ Some answer → answer ≡ truth
     told_here x answer within reads is = told.by_part x.part answer (each i x (item_at cpus ys i x same within reads)).holds.0 is
 
-    -- what a CPU has in its hands, some part of the system's tells
+    -- what a CPU has in its hands, some part of the system reports
     pub told_somewhere : home ≡ None → length ys ≤ i → ((k : ℕ) (x : Cpu P M) → k < i → slice_get ys k ≡ Some x → here x.part ≡ None) → ⊥
     told_somewhere none over nobody =
         let held = told.somewhere none in
@@ -44,7 +45,7 @@ module _ {P L M : Type 0} (I : Ghosts P L M) (m : M) (cpus : List (Cpu P M))
         let is = each held.cpu.0 there.0 there.1 in
         held.has there.0.part (is.holds.1 ∙ is.number_is) is.holds.0 (up_to_end (λ x. here x.part ≡ None) cpus ys i same over nobody held.cpu.0 there.0 there.1)
 
-  -- of a thread at home in the system some part is not silent
+  -- for a thread whose home CPU is in the system, some part is not silent
   pub wait_channel_here : (IsSilent : P → Type 0) (homes : List CpuId) (moves : List Step) (t : Tid) → AreMoves homes moves
       → ((u : Tid) (home : CpuId) → home_of homes u ≡ Some home → home.0 < length cpus)
       → ReadsPlace (λ p. I.Fits p m) (λ p. I.cpu_of p) (I.MayHold m) IsSilent (home_of homes t) (where_is homes moves t)

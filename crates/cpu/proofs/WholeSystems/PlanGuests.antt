@@ -14,7 +14,7 @@ names_in_lines : (buffers : ℕ) (program : List Instruction) → All (λ i. IsT
 names_in_lines buffers program all line = grind (arith, unwrap_or-slice_get, cases_lt, get_or_past)
 
 module _ (cpus buffers : ℕ) (tasks : List Task) (all : All (IsTask cpus buffers) tasks) (c : ℕ) where
-  -- a guest of CPU c is that of a thread at home there
+  -- a guest of CPU c is that of a thread with this home CPU
   pub record IsGuestOf (t : ℕ) (g : Guest) : Type 0 where
     pub task : Task
     pub there : slice_get tasks t ≡ Some task

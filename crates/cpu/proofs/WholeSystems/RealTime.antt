@@ -1,4 +1,5 @@
--- A run is linearizable by its steps, and the order goes on from that of each of its moments.
+-- A run is linearizable with respect to its steps, and the order at each of its moments is a prefix
+-- of the later ones.
 use Rattle.std.proofs.{Common.{◌≡◌, ◌+◌, List, [], ◌∷◌, ◌++◌, ap, sym, ◌∙◌, subst, append_assoc, arith}, lemmas.List.{append-nil, length-append}}
 use Rattle.std.{proofs.lemmas.{List.{get_or_append_left, get_or-append-add}, Option.slice_get-get_or}, specs.Prelude.Contains}
 use Rattle.{event_log.specs.declared.{entries.Entry.Entry, ids.CpuId.CpuId}, cpu.specs.{Claims.{IsMoment, Shown}, Linear.{ComesBefore, IsLinearizable}}}

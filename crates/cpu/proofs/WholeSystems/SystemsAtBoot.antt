@@ -1,4 +1,5 @@
--- A system before its first step is the step table's at boot, and the setup that its plan says is its own.
+-- A system before its first step is the step table's at boot, and the setup that its plan
+-- determines is its own.
 use Rattle.std.proofs.Common.{◌≡◌, ℕ, zero, suc, ◌+◌, false, List, [], ◌∷◌, length, map, replicate, Option, Some, None, refl, ap, sym, ◌∙◌, subst, arith}
 use Rattle.std.{proofs.lemmas.{List.length-map, Option.{get_or_from_slice_get, slice_get_within}}, specs.Prelude.{IfOk, Result, slice_get}}
 use Rattle.std.specs.Prelude.{slice_index_or, if◌then◌else◌}
@@ -12,7 +13,7 @@ use Rattle.cpu.proofs.{ListFacts.ListReads.{listed_length, listed_there, shown_a
 
 -- One CPU.
 
--- the threads at home on a CPU, by rising number
+-- the home threads of a CPU, by rising number
 homed_is : (c : CpuId) (n : ℕ) (homes : List CpuId) → homed c n homes ≡ home_threads_from c homes n
 homed_is c n [] = refl
 homed_is c n (home ∷ homes) = (λ i. if same_cpu_sym c home i then record { 0 = n } ∷ homed_is c (n + 1) homes i else homed_is c (n + 1) homes i)

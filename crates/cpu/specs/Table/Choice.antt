@@ -1,4 +1,4 @@
--- What a CPU does next, and what a section's answer makes of its private state.
+-- What a CPU does next, and what a section's result makes of its private state.
 use Rattle.std.specs.Prelude.{ℕ, ◌+◌, Bool, true, false, ◌==◌, List, [], ◌∷◌, ◌++◌, length, Option, Some, None, if◌then◌else◌}
 use Rattle.event_log.specs.declared.{ids.{CpuId.CpuId, Tid.Tid, BufId.BufId, LockId.{LockId, TheVariants.{Pending, Buffer as AtBuffer}}}, entries.Entry.Entry}
 use Rattle.event_log.specs.{History.same_cpu, Messages.{Message, no_message}, Runs.{Group, Sends, Receives, Closes}}
@@ -11,7 +11,7 @@ use Rattle.cpu.specs.Table.Blocks.{TryTake, Shut, WaitOn, SigRecv, SigSend, RelQ
 use Rattle.cpu.specs.Table.{Blocks.{DidShut, NotYet, Drained, Answer}, Setups.{Setup, Call, Private, thread_at, with_thread, home_cpu, stands_at, home_threads}}
 use Rattle.cpu.specs.Table.Setups.{open_calls, have_ended}
 
--- The section that is asked.
+-- The section that is requested.
 
 -- a section: at which lock, and which
 pub record Ask : Type 0 where
@@ -38,7 +38,8 @@ abbrev pub second_signal : Tid → Side → Name
 second_signal t Senders = SigSend t
 second_signal t Receivers = SigRecv t
 
--- the section of a call that has got the lock: a send or a receive enters its line, a close takes effect at once
+-- the section of a call that has acquired the lock: a send or a receive enters its line, a close
+-- takes effect at once
 abbrev pub first_section : Tid → Group → Name
 first_section t Sends = Enter t Senders
 first_section t Receives = Enter t Receivers
@@ -56,7 +57,8 @@ section_due t call SignalsOwn = second_signal t (side_of_group call.asks)
 section_due t call Releases = RelQ t
 section_due t call Idle = RelQ t
 
--- outside a call a section is the taking of all that are pending: by a yield, or by a CPU that has nobody to run
+-- outside a call, a section takes all pending threads: for a yield, or for a CPU that has no thread
+-- to run
 abbrev pub asked_by : CpuId → Tid → Option Call → Ask
 asked_by c t None = at_pending c TakeAll
 asked_by c t (Some call) = at_buffer call.buffer (section_due t call call.stage)
@@ -65,18 +67,19 @@ abbrev pub asked_at : CpuId → Private → Option Tid → Ask
 asked_at c p None = at_pending c TakeAll
 asked_at c p (Some t) = asked_by c t (thread_at p t).call
 
--- while there is a thread in the hand, it is put among the pending threads of its home first
+-- a thread in the hand is first appended to the pending threads of its home CPU
 abbrev pub asked_in : Setup → CpuId → Private → Option Tid → Ask
 asked_in setup c p None = asked_at c p p.current
 asked_in setup c p (Some s) = at_pending (home_cpu setup s) (Pend s)
 
--- the section that is asked of a CPU
+-- the section that a CPU requests
 abbrev pub asked : Setup → CpuId → Private → Ask
 asked setup c p = asked_in setup c p p.hand
 
--- The choice of a step, where no section is under way.
+-- The choice of a step, while no section is under way.
 
--- a CPU is halted, does something alone, or begins a section, with the private state that it then has
+-- a CPU is halted, does something local, or begins a section; with the private state that it then
+-- has
 pub data Choice : Type 0 where
   Halts : (reason : Reason) → Choice
   Alone : (next : Private) → Choice
@@ -92,7 +95,7 @@ with_call p t call = with_thread p t (record (thread_at p t) { call = call })
 abbrev pub with_state : Private → Tid → State → Private
 with_state p t guest = with_thread p t (record (thread_at p t) { guest = guest })
 
--- a call begins, unless the trace has room for no more entries than its CPU's calls under way will leave
+-- a call begins, unless the calls under way will leave the trace full
 abbrev pub begin_or_halt : Setup → CpuId → Private → Tid → Call → Choice
 begin_or_halt setup c p t call =
     if (length p.trace + open_calls p (home_threads setup c)) == setup.trace_room
@@ -103,7 +106,7 @@ begin_or_halt setup c p t call =
 abbrev pub ends : Private → Tid → Private
 ends p t = record (with_thread p t (record (thread_at p t) { ended = true })) { current = None }
 
--- the current thread stands at an instruction
+-- the current thread is at an instruction
 abbrev pub at_instruction : Setup → CpuId → Private → Tid → Instruction → Choice
 at_instruction setup c p t (Send b from k) = begin_or_halt setup c p t (new_call Sends b (message_from (thread_at p t).guest from))
 at_instruction setup c p t (Recv b into k) = begin_or_halt setup c p t (new_call Receives b no_message)
@@ -115,12 +118,12 @@ at_instruction setup c p t (Add r q) = Alone (with_state p t (after_local (Add r
 at_instruction setup c p t (Sub r q) = Alone (with_state p t (after_local (Sub r q) (thread_at p t).guest))
 at_instruction setup c p t (Jnz r k) = Alone (with_state p t (after_local (Jnz r k) (thread_at p t).guest))
 
--- the current thread goes on with its call, or with its instruction
+-- the current thread continues its call, or its instruction
 abbrev pub at_call : Setup → CpuId → Private → Tid → Option Call → Choice
 at_call setup c p t (Some call) = Goes p
 at_call setup c p t None = at_instruction setup c p t (stands_at setup p t)
 
--- nobody runs: the first that is ready does; where nobody is ready, all that are pending are taken
+-- no thread runs: the first ready thread does next; if none is ready, all pending threads are taken
 abbrev pub at_ready : Private → List Tid → Choice
 at_ready p [] = Goes p
 at_ready p (t ∷ rest) = Alone (record p { current = Some t; ready = rest })
@@ -129,26 +132,26 @@ abbrev pub at_current : Setup → CpuId → Private → Option Tid → Choice
 at_current setup c p None = at_ready p p.ready
 at_current setup c p (Some t) = at_call setup c p t (thread_at p t).call
 
--- a thread in the hand comes before all else; a CPU of which each thread has ended is halted
+-- a thread in the hand precedes all else; a CPU of which each thread has ended is halted
 abbrev pub at_hand : Setup → CpuId → Private → Option Tid → Choice
 at_hand setup c p (Some s) = Goes p
 at_hand setup c p None = if have_ended p (home_threads setup c) then Halts AllEnded else at_current setup c p p.current
 
--- what a CPU does that has no section under way
+-- what a CPU without a section under way does
 abbrev pub choice : Setup → CpuId → Private → Choice
 choice setup c p = at_hand setup c p p.hand
 
--- What an answer makes of the private state.
+-- What a result makes of the private state.
 
 -- the entry of an effect
 abbrev pub entry_made : CpuId → Tid → Call → ℕ → Message → Entry
 entry_made c t call op m = record { cpu = c; thread = t; kind = kind_for call.asks call.closed; buffer = call.buffer; value = m; op = op; pos = call.position }
 
--- the call goes on to this stage
+-- the call continues at this stage
 abbrev pub goes_to : Private → Tid → Call → Stage → Private
 goes_to p t call stage = with_call p t (Some (record call { stage = stage }))
 
--- the call has its effect, and its entry is written
+-- the call takes effect, and its entry is written
 abbrev pub effected : CpuId → Private → Tid → Call → ℕ → Private
 effected c p t call op =
     record (with_call p t (Some (record call { effect = Some op; stage = Signals }))) { trace = p.trace ++ entry_made c t call op call.message ∷ [] }
@@ -163,20 +166,21 @@ abbrev pub recorded_shut : CpuId → Private → Tid → Call → Reported → P
 recorded_shut c p t call (DidShut op pos) = effected c p t (record call { position = pos }) op
 recorded_shut c p t call _ = p
 
--- what its first section told, by what the call asks
+-- what its first section reported, by what the call asks for
 abbrev pub recorded_entry : CpuId → Private → Tid → Call → Group → Reported → Private
 recorded_entry c p t call Sends told = recorded_position p t call told
 recorded_entry c p t call Receives told = recorded_position p t call told
 recorded_entry c p t call Closes told = recorded_shut c p t call told
 
--- what the try told: its effect, that it found the buffer closed, which is its effect too, or that the call has to wait
+-- what the try reported: its effect, that it found the buffer closed, which is its effect too, or
+-- that the call must wait
 abbrev pub recorded_try : CpuId → Private → Tid → Call → Reported → Private
 recorded_try c p t call (Done op m) = effected c p t (record call { message = m }) op
 recorded_try c p t call (WasClosed op) = effected c p t (record call { closed = true }) op
 recorded_try c p t call NotYet = goes_to p t call Waits
 recorded_try c p t call _ = p
 
--- what the section of a stage told
+-- what the section of a stage reported
 abbrev pub with_told : CpuId → Private → Tid → Call → Stage → Reported → Private
 with_told c p t call Acquires told = goes_to p t call Enters
 with_told c p t call Enters told = recorded_entry c p t call call.asks told
@@ -188,23 +192,23 @@ with_told c p t call SignalsOwn told = goes_to p t call Releases
 with_told c p t call Releases told = goes_to p t call Idle
 with_told c p t call Idle told = p
 
--- a caller that sleeps runs no longer
+-- a caller that sleeps is no longer the running thread
 abbrev pub slept_if : Bool → Private → Private
 slept_if false p = p
 slept_if true p = record p { current = None }
 
--- a woken thread is ready if it is at home here; else it is in the hand
+-- a woken thread is ready if this is its home CPU; otherwise it is in the hand
 abbrev pub woken : Setup → CpuId → Option Tid → Private → Private
 woken setup c None p = p
 woken setup c (Some s) p = if same_cpu (home_cpu setup s) c then record p { ready = p.ready ++ s ∷ [] } else record p { hand = Some s }
 
--- the thread's state once its call has returned, by what it asked
+-- the thread's state after its call has returned, by what it asked for
 abbrev pub guest_served : Group → Instruction → Message → State → State
 guest_served Sends line m guest = after_send line guest
 guest_served Receives line m guest = after_recv line m guest
 guest_served Closes line m guest = after_close line guest
 
--- one that found its buffer closed goes on at its target
+-- a call that found its buffer closed continues at its target
 abbrev pub guest_after : Group → Bool → Instruction → Message → State → State
 guest_after asks closed line m guest = if closed then after_closed line guest else guest_served asks line m guest
 
@@ -238,12 +242,12 @@ drained _ = []
 abbrev pub after_call : Setup → CpuId → Private → Tid → Call → Answer → Private
 after_call setup c p t call a = settled setup (woken setup c a.woke (slept_if a.slept (with_told c p t call call.stage a.told)))
 
--- after a yield: those that were pending are ready, then the thread that yielded; nobody runs
+-- after a yield: the pending threads are ready, then the thread that yielded; no thread runs
 abbrev pub after_yielding : Setup → Private → Tid → Answer → Private
 after_yielding setup p t a =
     record (with_state p t (after_yield (stands_at setup p t) (thread_at p t).guest)) { current = None; ready = (p.ready ++ drained a.told) ++ t ∷ [] }
 
--- after a drain: those that were pending are ready
+-- after a drain: the pending threads are ready
 abbrev pub after_drain : Private → Answer → Private
 after_drain p a = record p { ready = p.ready ++ drained a.told }
 
@@ -255,7 +259,7 @@ abbrev pub after_at : Setup → CpuId → Private → Option Tid → Answer → 
 after_at setup c p None a = after_drain p a
 after_at setup c p (Some t) a = after_by setup c p t (thread_at p t).call a
 
--- after the section that put the thread in the hand among the pending, the hand is empty
+-- after the section that appended the thread in the hand to the pending threads, the hand is empty
 abbrev pub after_in : Setup → CpuId → Private → Option Tid → Answer → Private
 after_in setup c p None a = after_at setup c p p.current a
 after_in setup c p (Some s) a = settled setup (record p { hand = None })

@@ -22,7 +22,7 @@ closed_alone = setup_of 1 (0 ∷ [])
 abbrev pub closed_on_two : Setup
 closed_on_two = setup_of 1 (0 ∷ 0 ∷ 0 ∷ []) (receives_one ∷ receives_one ∷ closes_one ∷ []) (1 ∷ []) 8
 
--- one thread that closes a buffer, and whose receive goes on at a send two lines below
+-- one thread that closes a buffer, and whose receive continues at a send two lines below
 abbrev pub closed_aside : Setup
 closed_aside = setup_of 1 (0 ∷ [])
     ((Set Reg0 7 ∷ Close (buffer_numbered 0) ∷ Recv (buffer_numbered 0) (ToOne Reg0) (Some 4) ∷ Set Reg0 9 ∷ send_from Reg0 ∷ []) ∷ [])
@@ -36,7 +36,8 @@ pub record ClosingRuns : Type 0 where
   pub woken : (traces (reached closed_apart apart) ≡ (as_entry 0 0 RecvClosed 0 no_message 1 0 ∷ []) ∷ (as_entry 1 1 CloseKind 0 no_message 0 0 ∷ []) ∷ [])
       × (at_buffer_0 closed_apart (reached closed_apart apart) ≡ leaves [])
       × (endings (reached closed_apart apart) ≡ (true ∷ false ∷ []) ∷ (false ∷ true ∷ []) ∷ [])
-  -- a send finds the buffer closed; a receive takes the message that is left; the next one finds it closed and empty
+  -- a send finds the buffer closed; a receive takes the message that is left; the next one finds it
+  -- closed and empty
   pub served : (traces (reached closed_alone (of 0 90 ∷ []))
       ≡ (as_entry 0 0 SendKind 0 (7 ∷ []) 0 0 ∷ as_entry 0 0 CloseKind 0 no_message 1 0 ∷ as_entry 0 0 SendClosed 0 (7 ∷ []) 2 1
       ∷ as_entry 0 0 RecvKind 0 (7 ∷ []) 3 0 ∷ as_entry 0 0 RecvClosed 0 no_message 4 1 ∷ []) ∷ [])
@@ -47,7 +48,7 @@ pub record ClosingRuns : Type 0 where
       × (at_buffer_0 closed_on_two (reached closed_on_two (of 0 77 ∷ [])) ≡ leaves [])
       × (endings (reached closed_on_two (of 0 77 ∷ [])) ≡ (true ∷ true ∷ true ∷ []) ∷ [])
       × (reason closed_on_two 0 (reached closed_on_two (of 0 77 ∷ [])) ≡ Some AllEnded)
-  -- a call that finds its buffer closed goes on at its target, and its registers stay
+  -- a call that finds its buffer closed continues at its target, and its registers stay
   pub aside : (traces (reached closed_aside (of 0 60 ∷ []))
       ≡ (as_entry 0 0 CloseKind 0 no_message 0 0 ∷ as_entry 0 0 RecvClosed 0 no_message 1 0 ∷ as_entry 0 0 SendClosed 0 (7 ∷ []) 2 0 ∷ []) ∷ [])
       × (endings (reached closed_aside (of 0 60 ∷ [])) ≡ (true ∷ []) ∷ [])

@@ -1,4 +1,4 @@
--- What each section makes of the block that it finds, and what it answers.
+-- What each section makes of the block that it finds, and its result.
 use Rattle.std.specs.Prelude.{ℕ, Bool, true, false, ◌&&◌, ◌||◌, nat_lt, List, [], ◌∷◌, ◌++◌, length, Option, Some, None, if◌then◌else◌}
 use Rattle.{event_log.specs.{declared.ids.Tid.Tid, Messages.Message}, thread_blocks.specs.Queues.without, layer_traits.specs.declared.locked.Side.Side}
 use Rattle.layer_traits.specs.{declared.locked.Side.TheVariants.{Receivers, Senders}, Polling.Plans.Table, Layers.Sleeping.joined, Blocks.BufferBlocks.may_join}
@@ -14,31 +14,31 @@ has_room k = nat_lt (length k.items) k.capacity
 abbrev pub has_items : Buffer → Bool
 has_items k = nat_lt 0 (length k.items)
 
--- what is a side's, of what is the receivers' and what is the senders'
+-- what belongs to a side, given the receivers' and the senders'
 abbrev pub on_side : {A : Type 0} → Side → (receivers senders : A) → A
 on_side Receivers receivers senders = receivers
 on_side Senders receivers senders = senders
 
--- the line of a side, and those who wait on it
+-- the line of a side, and the threads that wait on it
 abbrev pub line_on : Side → Buffer → List Tid
 line_on side k = on_side side k.receive_line k.send_line
 
 abbrev pub waiting_of : Side → Buffer → List Tid
 waiting_of side k = on_side side k.waiting_receivers k.waiting_senders
 
--- the first of a side's line has something to do: where the buffer is closed, to answer that
+-- the first of a side's line can take effect; if the buffer is closed, by reporting that
 abbrev pub front_may_go : Side → Buffer → Bool
 front_may_go side k = k.closed || on_side side (has_items k) (has_room k)
 
--- whether a try of this thread has its effect: it is first in its line and has something to do
+-- whether a try of this thread takes effect: the thread is first in its line and can take effect
 abbrev pub may_try : Side → Tid → Buffer → Bool
 may_try side t k = is_first t (line_on side k) && front_may_go side k
 
--- the first of a line waits and has something to do: whoever signals its side wakes it
+-- the first of a line waits and can take effect: a signal to its side wakes it
 abbrev pub is_due : Side → Buffer → Bool
 is_due side k = front_stands_in (line_on side k) (waiting_of side k) && front_may_go side k
 
--- whom a signal wakes
+-- the thread that a signal wakes
 abbrev pub due_on : Side → Buffer → Option Tid
 due_on side k = if is_due side k then front (line_on side k) else None
 
@@ -47,12 +47,12 @@ abbrev pub without_any : Option Tid → List Tid → List Tid
 without_any None list = list
 without_any (Some t) list = without t list
 
--- t asks for the lock: where nobody owns it t owns it now; else t sleeps among the sleepers
+-- t acquires the lock: if no thread owns it, t does; otherwise t sleeps among the sleepers
 abbrev pub acquired : Tid → Option Tid → Buffer → Buffer
 acquired t None k = record k { busy = Some t }
 acquired t (Some owner) k = record k { sleepers = joined t k.sleepers }
 
--- t stands at the end of a line, and its position is drawn
+-- t enters a line at its end, and its position is drawn
 abbrev pub lined_up : Tid → Side → Buffer → Buffer
 lined_up t Senders k = record k { send_line = k.send_line ++ t ∷ []; send_positions = counted k.send_positions }
 lined_up t Receivers k = record k { receive_line = k.receive_line ++ t ∷ []; receive_positions = counted k.receive_positions }
@@ -61,7 +61,8 @@ lined_up t Receivers k = record k { receive_line = k.receive_line ++ t ∷ []; r
 abbrev pub drawn_position : Side → Buffer → ℕ
 drawn_position side k = on_side side k.receive_positions k.send_positions
 
--- the first of the send line has put its message behind the items, unless the buffer is closed, and left the line
+-- the first of the send line has appended its message to the items, unless the buffer is closed,
+-- and left the line
 abbrev pub put : Message → Buffer → Buffer
 put m k = record k { items = items_put k.closed m k.items; send_line = behind k.send_line; effects = counted k.effects }
 
@@ -78,12 +79,12 @@ abbrev pub waiting : Tid → Side → Buffer → Buffer
 waiting t Senders k = record k { waiting_senders = joined t k.waiting_senders }
 waiting t Receivers k = record k { waiting_receivers = joined t k.waiting_receivers }
 
--- whom a signal to a side woke waits no longer
+-- the thread that a signal to a side woke no longer waits
 abbrev pub signal_sent : Side → Buffer → Buffer
 signal_sent Senders k = record k { waiting_senders = without_any (due_on Senders k) k.waiting_senders }
 signal_sent Receivers k = record k { waiting_receivers = without_any (due_on Receivers k) k.waiting_receivers }
 
--- the lock passes to its first sleeper, or nobody owns it
+-- the lock passes to its first sleeper, or no thread owns it
 abbrev pub released : Buffer → Buffer
 released k = record k { busy = front k.sleepers; sleepers = behind k.sleepers }
 
@@ -112,24 +113,25 @@ abbrev pub edited : Name → Block → Block
 edited name (OfBuffer k) = OfBuffer (edited_buffer name k)
 edited name (OfPending threads) = OfPending (edited_pending name threads)
 
--- an answer that tells something, of a caller that goes on
+-- a result that reports something, of a caller that continues
 abbrev pub reports : Reported → Answer
 reports told = record { told = told; slept = false; woke = None }
 
--- the answer of a section whose caller sleeps now
+-- the result of a section whose caller sleeps next
 abbrev pub sleeps : Option Tid → Answer
 sleeps woke = record { told = Nothing; slept = true; woke = woke }
 
--- the answer of a section that may wake a thread, of a caller that goes on
+-- the result of a section that may wake a thread, of a caller that continues
 abbrev pub wakes : Option Tid → Answer
 wakes woke = record { told = Nothing; slept = false; woke = woke }
 
--- whoever asks for a lock that is owned sleeps
+-- a thread that acquires a lock which is owned sleeps
 abbrev pub answer_of_acquire : Option Tid → Answer
 answer_of_acquire None = reports Nothing
 answer_of_acquire (Some owner) = sleeps None
 
--- what a try tells that has its effect: a put finds the buffer closed or not, a take finds no item only where the buffer is closed
+-- what a try that takes effect reports: a put finds the buffer closed or not, a take finds no item
+-- only if the buffer is closed
 abbrev pub report_of_put : Bool → ℕ → Message → Reported
 report_of_put closed op m = if closed then WasClosed op else Done op m
 
@@ -137,7 +139,7 @@ abbrev pub report_of_take : List Message → ℕ → Reported
 report_of_take [] op = WasClosed op
 report_of_take (m ∷ items) op = Done op m
 
--- what a section on a buffer answers
+-- the result of a section on a buffer
 abbrev pub answer_of_buffer : Name → Buffer → Answer
 answer_of_buffer (AcqQ t) k = answer_of_acquire k.busy
 answer_of_buffer (Enter t side) k = reports (Position (drawn_position side k))
@@ -151,16 +153,16 @@ answer_of_buffer (RelQ t) k = wakes (front k.sleepers)
 answer_of_buffer (Pend s) k = reports Nothing
 answer_of_buffer TakeAll k = reports Nothing
 
--- what a section on a queue of pending threads answers
+-- the result of a section on a queue of pending threads
 abbrev pub answer_of_pending : Name → List Tid → Answer
 answer_of_pending TakeAll threads = reports (Drained threads)
 answer_of_pending name threads = reports Nothing
 
--- what a section answers
+-- the result of a section
 abbrev pub answer : Name → Block → Answer
 answer name (OfBuffer k) = answer_of_buffer name k
 answer name (OfPending threads) = answer_of_pending name threads
 
--- the edits and the answers of the sections
+-- the edits and the results of the sections
 abbrev pub table_kernel : Table Name Block Answer
 table_kernel = record { edited = edited; answer = answer }

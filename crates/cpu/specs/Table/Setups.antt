@@ -5,7 +5,8 @@ use Rattle.{event_log.specs.{History.same_cpu, Messages.Message, Runs.Group}, gu
 use Rattle.{guest.specs.State.{at_start, next_of}, cpu.specs.Table.Blocks.{Buffer, Block, OfBuffer, OfPending}}
 use Rattle.layer_traits.specs.{declared.call_states.Stage.Stage, Threads.Passes.or_else}
 
--- how many CPUs there are, the home of each thread, its program, the capacity of each buffer, and for how many entries a CPU's trace has room
+-- the number of CPUs, the home CPU of each thread, its program, the capacity of each buffer, and
+-- how many entries a CPU's trace may have
 pub record Setup : Type 0 where
   pub cpus : ℕ
   pub homes : List CpuId
@@ -13,9 +14,11 @@ pub record Setup : Type 0 where
   pub caps : List ℕ
   pub trace_room : ℕ
 
--- a call under way: what it asks of which buffer, its message (what it sends, or has received), its position in its line (of a close:
--- among the closes), the number of its effect once it has come, whether it then found the buffer closed, and its stage: the section that is
--- due to it. One at Idle has done its last section and returns once the thread that this woke is put among its home's pending threads.
+-- A call under way. What it asks of which buffer. Its message: what it sends, or has received. Its
+-- position in its line; of a close, among the closes. The number of its effect once it has one, and
+-- whether it then found the buffer closed. Its stage, which is its next section. A call at Idle has
+-- done its last section; it returns after the thread that this section woke is appended to its home
+-- CPU's pending threads.
 pub record Call : Type 0 where
   pub asks : Group
   pub buffer : BufId
@@ -31,8 +34,9 @@ pub record Thread : Type 0 where
   pub call : Option Call
   pub ended : Bool
 
--- a CPU's private state: the thread that runs, those that are ready, first in front, the woken thread in its hand that it has yet to
--- put among another CPU's pending threads, all threads by number (those of other homes stay as at boot), and its trace, oldest first
+-- A CPU's private state: the running thread; the ready threads, head first; the woken thread in its
+-- hand, which it has yet to append to another CPU's pending threads; all threads by number; and its
+-- trace, oldest first. Threads of other homes stay as at boot.
 pub record Private : Type 0 where
   pub current : Option Tid
   pub ready : List Tid
@@ -48,7 +52,7 @@ new_thread = record { guest = at_start; call = None; ended = false }
 abbrev pub thread_at : Private → Tid → Thread
 thread_at p t = slice_index_or p.threads t.0 new_thread
 
--- the same private state, but for one thread
+-- the same private state, with one thread replaced
 abbrev pub with_thread : Private → Tid → Thread → Private
 with_thread p t x = record p { threads = slice_set p.threads t.0 x }
 
@@ -64,17 +68,17 @@ program_or (Some program) = program
 abbrev pub program_of : Setup → Tid → List Instruction
 program_of setup t = program_or (slice_get setup.programs t.0)
 
--- the instruction at which a thread stands
+-- the instruction at which a thread is
 abbrev pub stands_at : Setup → Private → Tid → Instruction
 stands_at setup p t = next_of (program_of setup t) (thread_at p t).guest
 
--- the threads of these homes, numbered from i on, that are at home on c
+-- the threads of these homes, numbered from i upwards, whose home CPU is c
 abbrev pub home_threads_from : CpuId → List CpuId → ℕ → List Tid
 home_threads_from c [] i = []
 home_threads_from c (home ∷ homes) i =
     if same_cpu home c then record { 0 = i } ∷ home_threads_from c homes (i + 1) else home_threads_from c homes (i + 1)
 
--- the threads at home on c, by rising number
+-- the threads whose home CPU is c, by rising number
 abbrev pub home_threads : Setup → CpuId → List Tid
 home_threads setup c = home_threads_from c setup.homes 0
 
@@ -109,7 +113,7 @@ abbrev pub opening : Setup → LockId → Option Block
 opening setup (Pending c) = Some (OfPending [])
 opening setup (AtBuffer b) = opening_buffer (slice_get setup.caps b.0)
 
--- no effect has come
+-- there is no effect yet
 abbrev pub has_none : Option ℕ → Bool
 has_none None = true
 has_none (Some op) = false

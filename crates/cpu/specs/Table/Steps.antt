@@ -7,7 +7,7 @@ use Rattle.cpu.specs.Table.{Setups.{Setup, Private, boot_of, opening}, Choice.{a
 
 -- A CPU's step.
 
--- the private state after an action: only the action that ends a section has an answer
+-- the private state after an action: only the action that ends a section has a result
 abbrev pub after_reply : Setup → CpuId → Private → Option Answer → Private
 after_reply setup c p None = p
 after_reply setup c p (Some a) = after_section setup c p a
@@ -29,7 +29,7 @@ chosen_step setup c p (Halts reason) past = record { next = p; acts = []; answer
 chosen_step setup c p (Alone q) past = record { next = q; acts = []; answer = Stepped }
 chosen_step setup c p (Goes q) past = acting setup c q past
 
--- a section that is under way goes on
+-- a section that is under way continues
 abbrev pub step_in : Setup → CpuId → Private → List (Action Name) → Bool → Outcome Private Name
 step_in setup c p past true = acting setup c p past
 step_in setup c p past false = chosen_step setup c p (choice setup c p) past
@@ -43,7 +43,7 @@ halted_by (Halts reason) = Some reason
 halted_by (Alone q) = None
 halted_by (Goes q) = None
 
--- why a CPU without a section under way takes no step, if it takes none
+-- why a CPU without a section under way takes no step, if there is a reason
 abbrev pub halted_at : Setup → CpuId → Private → Option Reason
 halted_at setup c p = halted_by (choice setup c p)
 
@@ -53,7 +53,8 @@ block_at setup lock log = block_after table_kernel.edited (opening setup) lock (
 
 -- A system's step.
 
--- a system: the private states of its CPUs, the actions of all of them, newest first, for how many steps there is room, and how many were taken
+-- a system: the private states of its CPUs, the actions of all of them, newest first, the room for
+-- steps, and how many were taken
 pub record Whole : Type 0 where
   pub cpus : List Private
   pub log : List (Action Name)
@@ -63,7 +64,7 @@ pub record Whole : Type 0 where
 abbrev pub cpu_numbered : ℕ → CpuId
 cpu_numbered n = record { 0 = n }
 
--- so many CPUs at boot, numbered from n on
+-- so many CPUs at boot, numbered from n upwards
 abbrev pub boots_from : Setup → ℕ → ℕ → List Private
 boots_from setup n zero = []
 boots_from setup n (suc k) = boot_of setup (cpu_numbered n) ∷ boots_from setup (n + 1) k
@@ -76,12 +77,12 @@ whole_at_boot setup room = record { cpus = boots_from setup 0 setup.cpus; log = 
 abbrev pub whole_after : CpuId → Whole → Outcome Private Name → Whole
 whole_after c s o = record { cpus = slice_set s.cpus c.0 o.next; log = o.acts ++ s.log; room = s.room; taken = s.taken + 1 }
 
--- what a step of a system leaves and answers
+-- what a step of a system leaves and returns
 pub record Stepping : Type 0 where
   pub next : Whole
   pub answer : Step
 
--- a step is taken only where there is room for it
+-- a step is taken only if there is room for it
 abbrev pub roomy : CpuId → Whole → Outcome Private Name → Bool → Stepping
 roomy c s o true = record { next = s; answer = Halted StepsUsed }
 roomy c s o false = record { next = whole_after c s o; answer = Stepped }
@@ -107,11 +108,11 @@ abbrev pub steps_by : Setup → CpuId → ℕ → Whole → Whole
 steps_by setup c zero s = s
 steps_by setup c (suc n) s = steps_by setup c n (system_step setup c s).next
 
--- the states that a system reaches from boot, whichever CPU steps when
+-- the states that a system reaches from boot, under every schedule
 pub data IsReached (setup : Setup) (room : ℕ) : Whole → Type 0 where
   boots : IsReached setup room (whole_at_boot setup room)
   steps_once : {s : Whole} (c : CpuId) → IsReached setup room s → c.0 < setup.cpus → IsReached setup room (system_step setup c s).next
 
--- the way of CPU c along a list of actions, by the table
+-- the steps of CPU c along a list of actions, according to the table
 abbrev pub AlongTable : Setup → CpuId → ℕ → Private → List (Action Name) → Type 0
 AlongTable setup c n p log = Along (cpu_step setup c) c (boot_of setup c) n p log

@@ -5,14 +5,16 @@ use Rattle.{layer_traits.specs.declared.steps.Reason.TheVariants.AllEnded, guest
 use Rattle.guest.specs.declared.instructions.{Register.TheVariants.{Reg1, Reg2}, Source.TheVariants.First, Instruction.TheVariants.{Set, Send, Recv}}
 use Rattle.cpu.specs.Table.{Setups.Setup, Worked.{buffer_numbered, of, reached, traces, endings, reason, at_buffer_0, leaves, as_entry, setup_of, send_from}}
 
--- one thread that sends its first two registers, receives the message into all of them, and sends the third
+-- one thread that sends its first two registers, receives the message into all of them, and sends
+-- the third
 abbrev pub words_alone : Setup
 words_alone = setup_of 1 (0 ∷ [])
     ((Set Reg0 1 ∷ Set Reg1 2 ∷ Send (buffer_numbered 0) (First 2) None ∷ Set Reg2 9 ∷ Recv (buffer_numbered 0) All None ∷ send_from Reg2 ∷ []) ∷ [])
     (1 ∷ []) 4
 
 pub record RunsOfWords : Type 0 where
-  -- a message of two words comes back whole, and the registers behind its words are 0 then: so the third one's number is lost
+  -- a message of two words is received whole, and the registers after its words are 0 then:
+  -- therefore the number of the third register is lost
   pub served : (traces (reached words_alone (of 0 59 ∷ []))
       ≡ (as_entry 0 0 SendKind 0 (1 ∷ 2 ∷ []) 0 0 ∷ as_entry 0 0 RecvKind 0 (1 ∷ 2 ∷ []) 1 0 ∷ as_entry 0 0 SendKind 0 (0 ∷ []) 2 1 ∷ []) ∷ [])
       × (at_buffer_0 words_alone (reached words_alone (of 0 59 ∷ [])) ≡ leaves ((0 ∷ []) ∷ []))

@@ -1,4 +1,5 @@
--- Worked runs of small systems, each from boot by a schedule, and what they leave. Each is a fact by computation.
+-- Worked runs of small systems, each from boot under a schedule, and what they leave. Each is a
+-- fact by computation.
 use Rattle.std.specs.Prelude.{◌≡◌, ℕ, true, false, List, [], ◌∷◌, map, Bool, Option, Some, None, slice_get}
 use Rattle.event_log.specs.declared.{ids.{Tid.Tid, BufId.BufId, LockId.TheVariants.{Pending, Buffer as AtBuffer}}, entries.Kind.Kind}
 use Rattle.event_log.specs.{declared.entries.{Kind.TheVariants.{Send as SendKind, Recv as RecvKind}, Entry.Entry}, Messages.Message, Actions.{takes, gives}}
@@ -72,7 +73,7 @@ buffer_block_of setup b s = block_at setup (AtBuffer (buffer_numbered b)) s.log
 abbrev pub pending_of : Setup → ℕ → Whole → Option Block
 pending_of setup c s = block_at setup (Pending (cpu_numbered c)) s.log
 
--- the parts of a buffer by which it differs from a new one
+-- the fields of a buffer in which it differs from a new one
 pub record Parts : Type 0 where
   pub busy : Option Tid
   pub sleepers : List Tid
@@ -91,11 +92,11 @@ parts_in (Some (OfBuffer k)) = Some (record {
   items = k.items;
 })
 
--- what buffer 0 holds, and who waits for what at it
+-- what buffer 0 holds, and which threads wait for what at it
 abbrev pub at_buffer_0 : Setup → Whole → Option Parts
 at_buffer_0 setup s = parts_in (buffer_block_of setup 0 s)
 
--- buffer 0 with these items, which nobody waits for
+-- buffer 0 with these items, for which no thread waits
 abbrev pub leaves : List Message → Option Parts
 leaves items = Some (record { busy = None; sleepers = []; waiting_receivers = []; waiting_senders = []; items = items })
 
@@ -112,7 +113,7 @@ as_entry cpu t kind b m op pos =
 
 -- Setups.
 
--- the home of each thread by number, its program, the capacities and the room of a trace
+-- the home CPU of each thread by number, its program, the capacities and the room of a trace
 abbrev pub setup_of : ℕ → List ℕ → List (List Instruction) → List ℕ → ℕ → Setup
 setup_of cpus homes programs caps trace_room =
     record { cpus = cpus; homes = map (λ n. cpu_numbered n) homes; programs = programs; caps = caps; trace_room = trace_room }
@@ -124,7 +125,8 @@ send_from r = Send (buffer_numbered 0) (OfOne r) None
 abbrev pub receive_into : Register → Instruction
 receive_into r = Recv (buffer_numbered 0) (ToOne r) None
 
--- a program that sends a number, one that sends it twice, one that sends two numbers, and one that receives
+-- a program that sends a number, one that sends it twice, one that sends two numbers, and one that
+-- receives
 abbrev pub sends_one : ℕ → List Instruction
 sends_one m = Set Reg0 m ∷ send_from Reg0 ∷ []
 
@@ -161,7 +163,7 @@ three_senders = setup_of 3 (0 ∷ 1 ∷ 2 ∷ []) (sends_one 1 ∷ sends_one 2 �
 abbrev pub short_trace : Setup
 short_trace = setup_of 1 (0 ∷ []) (sends_twice 7 ∷ []) (32 ∷ []) 1
 
--- one thread that sends a sum which comes round to 0
+-- one thread that sends a sum which wraps round to 0
 abbrev pub wrapping_sum : Setup
 wrapping_sum = setup_of 1 (0 ∷ [])
     ((Set Reg0 18446744073709551615 ∷ Set Reg1 1 ∷ Add Reg0 Reg1 ∷ send_from Reg0 ∷ Exit ∷ []) ∷ []) (1 ∷ []) 4
@@ -184,7 +186,7 @@ a_yield = setup_of 1 (0 ∷ 0 ∷ []) ((YieldLine ∷ []) ∷ (Exit ∷ []) ∷ 
 pub record AloneRuns : Type 0 where
   -- no step: the thread is ready
   pub at_boot : (readies (reached one_sender []) ≡ (thread 0 ∷ []) ∷ []) × (at_buffer_0 one_sender (reached one_sender []) ≡ leaves [])
-  -- the effect comes in the 9th step of the call, and the call returns in its 18th
+  -- the effect is in the 9th step of the call, and the call returns in its 18th
   pub before_effect : (traces (reached one_sender (of 0 10 ∷ [])) ≡ [] ∷ []) × (currents (reached one_sender (of 0 10 ∷ [])) ≡ Some (thread 0) ∷ [])
   pub effect : (traces (reached one_sender (of 0 11 ∷ [])) ≡ (as_entry 0 0 SendKind 0 (7 ∷ []) 0 0 ∷ []) ∷ [])
       × (parts_in (buffer_block_of one_sender 0 (reached one_sender (of 0 11 ∷ [])))
@@ -200,21 +202,22 @@ pub record AloneRuns : Type 0 where
   pub full_trace : (traces (reached short_trace (of 0 30 ∷ [])) ≡ (as_entry 0 0 SendKind 0 (7 ∷ []) 0 0 ∷ []) ∷ [])
       × (at_buffer_0 short_trace (reached short_trace (of 0 30 ∷ [])) ≡ leaves ((7 ∷ []) ∷ [])) × ((reached short_trace (of 0 30 ∷ [])).taken ≡ 20)
       × (currents (reached short_trace (of 0 30 ∷ [])) ≡ Some (thread 0) ∷ []) × (reason short_trace 0 (reached short_trace (of 0 30 ∷ [])) ≡ Some TraceFull)
-  -- a sum of 64 bits comes round
+  -- a sum of 64 bits wraps round
   pub wraps : (traces (reached wrapping_sum (of 0 23 ∷ [])) ≡ (as_entry 0 0 SendKind 0 (0 ∷ []) 0 0 ∷ []) ∷ [])
       × (at_buffer_0 wrapping_sum (reached wrapping_sum (of 0 23 ∷ [])) ≡ leaves ((0 ∷ []) ∷ []))
       × (endings (reached wrapping_sum (of 0 23 ∷ [])) ≡ (true ∷ []) ∷ [])
-  -- whoever yields stands behind those that are ready
+  -- a thread that yields is queued after those that are ready
   pub yields : (readies (reached a_yield (of 0 4 ∷ [])) ≡ (thread 1 ∷ thread 0 ∷ []) ∷ []) × (endings (reached a_yield (of 0 8 ∷ [])) ≡ (true ∷ true ∷ []) ∷ [])
 
--- a receiver and a sender, at home on two CPUs
+-- a receiver and a sender, whose home CPUs are two
 pub record RunsOfTwo : Type 0 where
-  -- the receiver has given up the lock and waits; CPU 0 then takes the pending threads again and again, and finds none
+  -- the receiver has given up the lock and waits; CPU 0 then takes the pending threads again and
+  -- again, and finds none
   pub idles : (at_buffer_0 two_cpus (reached two_cpus (of 0 19 ∷ [])) ≡ receiver_waits 0 []) × ((reached two_cpus (of 0 19 ∷ [])).taken ≡ 19)
       × (takes (Pending (cpu_numbered 0)) (reached two_cpus (of 0 19 ∷ [])).log ≡ 2)
       × (gives (Pending (cpu_numbered 0)) (reached two_cpus (of 0 19 ∷ [])).log ≡ 2)
       × (readies (reached two_cpus (of 0 19 ∷ [])) ≡ [] ∷ (thread 1 ∷ []) ∷ [])
-  -- a missed look changes nothing
+  -- a failed poll changes nothing
   pub misses : (phase (cpu_numbered 1) (reached two_cpus (of 0 2 ∷ of 1 40 ∷ [])).log ≡ Waits (AtBuffer (buffer_numbered 0)))
       × (currents (reached two_cpus (of 0 2 ∷ of 1 40 ∷ [])) ≡ Some (thread 0) ∷ Some (thread 1) ∷ [])
       × (traces (reached two_cpus (of 0 2 ∷ of 1 40 ∷ [])) ≡ [] ∷ [] ∷ [])
@@ -224,7 +227,8 @@ pub record RunsOfTwo : Type 0 where
       × (parts_in (buffer_block_of two_cpus 0 (reached two_cpus (of 0 13 ∷ of 1 14 ∷ [])))
       ≡ Some (record { busy = Some (thread 1); sleepers = []; waiting_receivers = []; waiting_senders = []; items = (7 ∷ []) ∷ [] }))
       × (traces (reached two_cpus (of 0 13 ∷ of 1 14 ∷ [])) ≡ [] ∷ (as_entry 1 1 SendKind 0 (7 ∷ []) 0 0 ∷ []) ∷ [])
-  -- the send that woke it takes 21 steps: one switch, one number set, 18 and the 3 that put the thread among the pending
+  -- the send that woke it takes 21 steps: one switch, one number set, 18 and the 3 that append the
+  -- thread to the pending threads
   pub under_way : (endings (reached two_cpus (of 0 13 ∷ of 1 22 ∷ [])) ≡ (false ∷ false ∷ []) ∷ (false ∷ false ∷ []) ∷ [])
       × (currents (reached two_cpus (of 0 13 ∷ of 1 22 ∷ [])) ≡ None ∷ Some (thread 1) ∷ []) × (call_of 1 1 (reached two_cpus (of 0 13 ∷ of 1 23 ∷ [])) ≡ None)
   pub pending : (pending_of two_cpus 0 (reached two_cpus (of 0 13 ∷ of 1 24 ∷ [])) ≡ Some (OfPending (thread 0 ∷ [])))
@@ -235,7 +239,8 @@ pub record RunsOfTwo : Type 0 where
       ≡ (as_entry 0 0 RecvKind 0 (7 ∷ []) 1 0 ∷ []) ∷ (as_entry 1 1 SendKind 0 (7 ∷ []) 0 0 ∷ []) ∷ [])
       × (at_buffer_0 two_cpus (reached two_cpus (of 0 13 ∷ of 1 24 ∷ of 0 20 ∷ [])) ≡ leaves [])
       × (endings (reached two_cpus (of 0 13 ∷ of 1 24 ∷ of 0 20 ∷ [])) ≡ (true ∷ false ∷ []) ∷ (false ∷ true ∷ []) ∷ [])
-  -- both on one CPU: the woken thread is ready there at once, and no section puts it among the pending
+  -- both on one CPU: the woken thread is ready there at once, and no section appends it to the
+  -- pending threads
   pub on_one_cpu : (traces (reached one_cpu (of 0 51 ∷ [])) ≡ (as_entry 0 1 SendKind 0 (7 ∷ []) 0 0 ∷ as_entry 0 0 RecvKind 0 (7 ∷ []) 1 0 ∷ []) ∷ [])
       × (at_buffer_0 one_cpu (reached one_cpu (of 0 51 ∷ [])) ≡ leaves []) × (endings (reached one_cpu (of 0 51 ∷ [])) ≡ (true ∷ true ∷ []) ∷ [])
 
@@ -253,24 +258,27 @@ handed_over = of 0 5 ∷ of 1 5 ∷ of 0 15 ∷ of 2 5 ∷ of 0 4 ∷ of 1 23 �
 
 -- three threads on three CPUs
 pub record RunsOfThree : Type 0 where
-  -- two receivers wait, and two sends come: the first wakes the first receiver; the second wakes nobody, for the first in line does not sleep
+  -- two receivers wait, and two sends occur: the first wakes the first receiver; the second wakes
+  -- no thread, because the first in the line does not sleep
   pub one_woken : (pending_of two_receivers 0 (reached two_receivers first_half) ≡ Some (OfPending (thread 0 ∷ [])))
       × (at_buffer_0 two_receivers (reached two_receivers first_half) ≡ receiver_waits 1 ((7 ∷ []) ∷ (8 ∷ []) ∷ []))
       × (reason two_receivers 2 (reached two_receivers first_half) ≡ Some AllEnded)
-  -- the first receiver signals its own side too: without that signal the second one would sleep on beside its item
+  -- the first receiver signals its own side too: without that signal the second one would sleep on
+  -- beside its item
   pub both_woken : (traces (reached two_receivers both_halves)
       ≡ (as_entry 0 0 RecvKind 0 (7 ∷ []) 2 0 ∷ []) ∷ (as_entry 1 1 RecvKind 0 (8 ∷ []) 3 1 ∷ [])
       ∷ (as_entry 2 2 SendKind 0 (7 ∷ []) 0 0 ∷ as_entry 2 2 SendKind 0 (8 ∷ []) 1 1 ∷ []) ∷ [])
       × (at_buffer_0 two_receivers (reached two_receivers both_halves) ≡ leaves [])
       × (endings (reached two_receivers both_halves) ≡ (true ∷ false ∷ false ∷ []) ∷ (false ∷ true ∷ false ∷ []) ∷ (false ∷ false ∷ true ∷ []) ∷ [])
-  -- a lock that is released passes to its first sleeper, which is in the hand of the CPU that released it
+  -- a lock that is released passes to its first sleeper, which is in the hand of the CPU that
+  -- released it
   pub lock_passes : (parts_in (buffer_block_of three_senders 0 (reached three_senders handing_over))
       ≡ Some (record { busy = Some (thread 1); sleepers = thread 2 ∷ []; waiting_receivers = []; waiting_senders = []; items = (1 ∷ []) ∷ [] }))
       × (hands (reached three_senders handing_over) ≡ Some (thread 1) ∷ None ∷ None ∷ [])
       × (currents (reached three_senders handing_over) ≡ Some (thread 0) ∷ None ∷ None ∷ [])
   pub all_sent : (at_buffer_0 three_senders (reached three_senders handed_over) ≡ leaves ((1 ∷ []) ∷ (2 ∷ []) ∷ (3 ∷ []) ∷ []))
       × (endings (reached three_senders handed_over) ≡ (true ∷ false ∷ false ∷ []) ∷ (false ∷ true ∷ false ∷ []) ∷ (false ∷ false ∷ true ∷ []) ∷ [])
-  -- whoever finds an item but is not the first in its line waits
+  -- a receiver that finds an item but is not the first in its line waits
   pub first_comes_first : (traces (reached receivers_apart (of 0 13 ∷ of 1 24 ∷ of 2 13 ∷ of 0 20 ∷ []))
       ≡ (as_entry 0 0 RecvKind 0 (7 ∷ []) 1 0 ∷ []) ∷ (as_entry 1 1 SendKind 0 (7 ∷ []) 0 0 ∷ []) ∷ [] ∷ [])
       × (at_buffer_0 receivers_apart (reached receivers_apart (of 0 13 ∷ of 1 24 ∷ of 2 13 ∷ of 0 20 ∷ [])) ≡ receiver_waits 2 [])

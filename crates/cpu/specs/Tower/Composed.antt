@@ -1,5 +1,5 @@
--- The plan of each poll is a line of the step table: it asks for the table's section, and what it makes of the section's answer is what
--- the table makes of it.
+-- The plan of each poll is a row of the step table. It requests the table's section, and what it
+-- makes of the section's result is what the table makes of it.
 use Rattle.std.specs.Prelude.{◌≡◌, ◌⊎◌, ◌<◌, Bool, true, false, List, Option, Some, None, IsSome, length, map, option_map, slice_get}
 use Rattle.layer_traits.specs.{Views.OwnParts.threads_in, declared.{calls.{Call.Call, Effect.Effect}, conditions.CvOut.CvOut, buffer_edits.BufferOut.BufferOut}}
 use Rattle.layer_traits.specs.declared.{locked.QOut.QOut, call_states.Stage.{Stage, TheVariants.{Idle, Acquires, Enters, Tries, Waits, AcquiresAgain, Signals}}}
@@ -20,8 +20,9 @@ use Rattle.layer_traits.specs.declared.queue_edits.QueueBlock.TheVariants as blo
 abbrev pub woken_outcome : QOut (CvOut BufferOut) → Tid → TowerOut
 woken_outcome out u = record { out = out; slept = false; woke = Some u }
 
--- how a begun call may stand: at each stage the hand, the kept answer, where its caller slept or waited, and its effect. While a woken
--- thread is in the hand, the answer of the section that woke it is kept.
+-- The states of a begun call: at each stage the hand, the kept result, where its caller slept or
+-- waited, and its effect. While a woken thread is in the hand, the result of the section that woke
+-- it is kept.
 pub data CallStands : Stage → (hand : Option Tid) → (deferred : Option TowerOut) → (slept waits : Option BufId) → (effect : Option Effect) → Type 0 where
   asks : CallStands Acquires None None None None None
   was_handed : (b : BufId) → CallStands Acquires None None (Some b) None None
@@ -38,7 +39,7 @@ pub data CallStands : Stage → (hand : Option Tid) → (deferred : Option Tower
   has_signalled_own : (u : Tid) (v : CvOut BufferOut) (f : Effect) → CallStands SignalsOwn (Some u) (Some (woken_outcome (lock.Did v) u)) None None (Some f)
   has_released : (u : Tid) (f : Effect) → CallStands Releases (Some u) (Some (woken_outcome (lock.Released cv.Left) u)) None None (Some f)
 
--- a call that stands in a line of its buffer until its effect: each but a close
+-- a call that is in a line of its buffer until its effect: every call except a close
 abbrev pub IsLined : Call → Type 0
 IsLined (asks_for.Send b m) = Unit {0}
 IsLined (asks_for.Recv b) = Unit {0}
@@ -48,7 +49,7 @@ abbrev pub IsLinedIn : Option Call → Type 0
 IsLinedIn None = Unit {0}
 IsLinedIn (Some call) = IsLined call
 
--- a call fits the stage: none but one in a line tries, waits, or asks for the lock again
+-- a call agrees with the stage: only a call in a line tries, waits, or acquires the lock again
 abbrev pub FitsStage : Stage → Option Call → Type 0
 FitsStage Tries call = IsLinedIn call
 FitsStage Waits call = IsLinedIn call
@@ -67,7 +68,7 @@ pub record IsGoing (own : Buffering) (guests : List State) (t : Tid) (call : Cal
   pub in_slept : t.0 < length own.cv.lock.slept
   pub in_waits : t.0 < length own.cv.waits
 
--- the thread in the hand has a home
+-- the thread in the hand has a home CPU
 abbrev pub HandIsKnown : Setup → Buffering → Type 0
 HandIsKnown setup own = (u : Tid) → (threads_in own).hand ≡ Some u → IsSome (slice_get setup.homes u.0)
 
@@ -78,13 +79,14 @@ IsKind (Buffer b) (block.Queue threads homes) = ⊥
 IsKind (Pending c) (block.Above state) = ⊥
 IsKind (Pending c) (block.Queue threads homes) = Unit {0}
 
--- the locks that a CPU asks for: those of the buffers, its own queue and the queues of the homes
+-- the locks that a CPU requests: those of the buffers, its own queue and the queues of the home
+-- CPUs
 abbrev pub IsUsed : Setup → CpuId → LockId → Type 0
 IsUsed setup c (Buffer b) = Unit {0}
 IsUsed setup c (Pending d) = (d ≡ c) ⊎ ((u : Tid) × (slice_get setup.homes u.0 ≡ Some d))
 
--- the plan of a poll is the table's line from p on: it asks for the section that the table asks for, leaves p while that has no answer,
--- and makes of each answer what the table makes of it
+-- The plan of a poll is the table's row from p. It requests the section that the table requests,
+-- leaves p until that has a result, and makes of each result what the table makes of it.
 pub record IsLine {A : Type 0} (setup : Setup) (c : CpuId) (p : Private) (plan : Plan TowerName TowerAnswer Buffering A)
     (after : Left Buffering A → Private) : Type 0 where
   pub lock : LockId
@@ -97,7 +99,7 @@ pub record IsLine {A : Type 0} (setup : Setup) (c : CpuId) (p : Private) (plan :
   pub gives : (x : TowerBlock) → IsKind lock x → HandIsKnown setup (react (Some (tower.answer name x))).own
       → after (react (Some (tower.answer name x))) ≡ after_section setup c p (answer_view (tower.answer name x))
 
--- the plan of every poll of a begun call is a line of the table
+-- the plan of every poll of a begun call is a row of the table
 abbrev pub PlansAreLines : Type 0
 PlansAreLines = (setup : Setup) (c : CpuId) (own : Buffering) (guests : List State) (trace : List Entry) (t : Tid) (call : Call)
     → IsGoing own guests t call → HandIsKnown setup own
@@ -107,18 +109,18 @@ PlansAreLines = (setup : Setup) (c : CpuId) (own : Buffering) (guests : List Sta
 abbrev pub named : List (Action TowerName) → List (Action Name)
 named acts = map (renamed name_of) acts
 
--- the opening blocks of the locks that a CPU asks for are the table's
+-- the opening blocks of the locks that a CPU requests are the table's
 abbrev pub OpensAs : Setup → CpuId → (LockId → Option TowerBlock) → Type 0
 OpensAs setup c opening = (l : LockId) → IsUsed setup c l → option_map view (opening l) ≡ table_opening setup l
 
--- the call that an instruction asks for
+-- the call that an instruction requests
 abbrev pub AsksFor : Instruction → State → Call → Type 0
 AsksFor (instruction.Send b from k) guest call = call ≡ asks_for.Send b (message_from guest from)
 AsksFor (instruction.Recv b into k) guest call = call ≡ asks_for.Recv b
 AsksFor (instruction.Close b) guest call = call ≡ asks_for.Close b
 AsksFor other guest call = ⊥
 
--- thread t runs, is in no call, and stands at this one
+-- thread t runs, is in no call, and is at this one
 pub record IsBeginning (setup : Setup) (own : Buffering) (guests : List State) (t : Tid) (call : Call) : Type 0 where
   pub current : (threads_in own).current ≡ Some t
   pub hand : (threads_in own).hand ≡ None
@@ -132,13 +134,13 @@ pub record IsBeginning (setup : Setup) (own : Buffering) (guests : List State) (
   pub in_slept : t.0 < length own.cv.lock.slept
   pub in_waits : t.0 < length own.cv.waits
 
--- what a step answers
+-- the result of a step
 abbrev pub busy_step_answer : (busy : Bool) → Option Reason → Step
 busy_step_answer true reason = Stepped
 busy_step_answer false None = Stepped
 busy_step_answer false (Some reason) = Halted reason
 
--- a step of the table answers that the CPU is halted exactly where it is and no section is under way
+-- a step of the table reports that the CPU is halted exactly if it is and no section is under way
 abbrev pub HaltsExactly : Type 0
 HaltsExactly = (setup : Setup) (c : CpuId) (p : Private) (log : List (Action Name))
     → (cpu_step setup c p log).answer ≡ busy_step_answer (is_in_section (phase c log)) (halted_at setup c p)

@@ -1,17 +1,18 @@
--- How all threads stand to a CPU's part between its polls.
+-- The states of all threads in a CPU's part between its polls.
 use Rattle.std.specs.Prelude.{◌≡◌, false, Option, Some, None, length}
 use Rattle.layer_traits.specs.{Views.OwnParts.threads_in, declared.{calls.Effect.Effect, call_states.Stage.{Stage, TheVariants.Idle}}}
 use Rattle.layer_traits.specs.{Layers.{QLockLaw.slept_for, BufferLaw.{Buffering, call_state_of}}, Threads.Places.is_thread}
 use Rattle.{event_log.specs.declared.ids.{BufId.BufId, Tid.Tid, TheConstants.THREADS}, cpu.specs.Tower.{Views.TowerOut, Composed.{CallStands, FitsStage}}}
 
--- a thread is in no call, and then it neither sleeps nor waits, or it stands in one as a begun call may
+-- a thread is in no call, and then neither sleeps nor waits, or it is in a state that a begun call
+-- may have
 pub data MayStand : Stage → (hand : Option Tid) → (deferred : Option TowerOut) → (slept waits : Option BufId) → (effect : Option Effect) → Type 0 where
   outside : (effect : Option Effect) → MayStand Idle None None None None effect
   inside : (stage : Stage) (hand : Option Tid) (deferred : Option TowerOut) (slept waits : Option BufId) (effect : Option Effect)
       → CallStands stage hand deferred slept waits effect → MayStand stage hand deferred slept waits effect
 
--- the thread that runs stands so with the hand and the kept answer, each other thread without one; while nobody runs none is kept; and
--- each thread's call fits its stage
+-- The running thread is in such a state with the hand and the kept result, each other thread
+-- without one. While no thread runs, no result is kept. Each thread's call agrees with its stage.
 pub record IsPart (own : Buffering) : Type 0 where
   pub mine : (t : Tid) → (threads_in own).current ≡ Some t
       → MayStand (call_state_of own.call_states t).stage (threads_in own).hand own.cv.lock.sleep.deferred (slept_for own.cv.lock.slept t)

@@ -1,5 +1,6 @@
--- A CPU's part, its guests by thread number and its trace as the table's private state. Where the part does a woken thread's next
--- section, or its caller's next one, only once that runs again, the table has already gone on: both do the same actions.
+-- A CPU's part, its guests by thread number and its trace as the table's private state. Some
+-- sections of a woken thread, or of its caller, the part does only after that thread runs again,
+-- when the table has already continued. Both do the same actions.
 use Rattle.std.specs.Prelude.{ℕ, ◌+◌, Bool, true, false, ◌&&◌, List, [], ◌∷◌, ◌++◌, Option, Some, None, is_some, option_map, slice_index_or, slice_set}
 use Rattle.layer_traits.specs.{Views.OwnParts.threads_in, declared.{calls.{Call.Call as TowerCall, Effect.Effect, Reply.Reply}, passes.Pass.Pass}}
 use Rattle.layer_traits.specs.declared.call_states.Stage.{Stage, TheVariants.{Idle, Acquires, Enters, Tries, Waits, AcquiresAgain, Signals, SignalsOwn}}
@@ -12,28 +13,30 @@ use Rattle.event_log.specs.declared.entries.Kind.TheVariants as kind
 use Rattle.layer_traits.specs.declared.calls.Call.TheVariants as asks
 use Rattle.layer_traits.specs.declared.passes.Pass.TheVariants as pass
 
--- the table's stage of a call: one whose caller slept for the lock, or waited, has done that section
+-- the table's stage of a call: a call whose caller slept for the lock, or waited, has done that
+-- section
 abbrev pub stage_of : Stage → (slept waits : Option BufId) → Stage
 stage_of Acquires (Some b) waits = Enters
 stage_of Waits slept (Some b) = AcquiresAgain
 stage_of AcquiresAgain (Some b) waits = Tries
 stage_of stage slept waits = stage
 
--- the table's stage of a call whose section is done and answers once the thread that it woke has left the hand
+-- the table's stage of a call whose section is done and returns once the thread that it woke has
+-- left the hand
 abbrev pub deferred_stage : Stage → Stage
 deferred_stage Signals = SignalsOwn
 deferred_stage SignalsOwn = Releases
 deferred_stage Releases = Idle
 deferred_stage stage = stage
 
--- the message of a call: that of its effect, once this has come
+-- the message of a call: that of its effect, once it has one
 abbrev pub call_message : TowerCall → Option Effect → Message
 call_message call (Some f) = f.value
 call_message (asks.Send b m) None = m
 call_message (asks.Recv b) None = no_message
 call_message (asks.Close b) None = no_message
 
--- its position: that of its effect, once this has come
+-- its position: that of its effect, once it has one
 abbrev pub position_of : ℕ → Option Effect → ℕ
 position_of position (Some f) = f.pos
 position_of position None = position
@@ -51,7 +54,7 @@ call_was_closed call None = false
 abbrev pub op_of : Effect → ℕ
 op_of f = f.op
 
--- what a call asks
+-- what a call asks for
 abbrev pub asks_in : TowerCall → Group
 asks_in (asks.Send b m) = Sends
 asks_in (asks.Recv b) = Receives
@@ -72,7 +75,8 @@ abbrev pub stage_from : Stage → (slept waits : Option BufId) → (deferred : B
 stage_from stage slept waits true = deferred_stage stage
 stage_from stage slept waits false = stage_of stage slept waits
 
--- a thread, by its call state, where it sleeps or waits, whether its section's answer is kept, whether it has ended, and its guest
+-- a thread, from its call state, where it sleeps or waits, whether its section's result is kept,
+-- whether it has ended, and its guest
 abbrev pub thread_from : CallState → (slept waits : Option BufId) → (deferred ended : Bool) → State → Thread
 thread_from call_state slept waits deferred ended guest = record {
   guest = guest;
@@ -81,7 +85,7 @@ thread_from call_state slept waits deferred ended guest = record {
   ended = ended;
 }
 
--- whether an answer is kept for a thread
+-- whether a result is kept for a thread
 abbrev pub is_deferred : Buffering → Tid → Bool
 is_deferred own u = is_thread u (threads_in own).current && is_some own.cv.lock.sleep.deferred
 
@@ -89,7 +93,7 @@ abbrev pub thread_of : Buffering → Tid → State → Thread
 thread_of own u guest = thread_from (call_state_of own.call_states u) (slept_for own.cv.lock.slept u) (slept_for own.cv.waits u) (is_deferred own u)
     (is_in u (threads_in own).ended) guest
 
--- threads by number, from n on
+-- threads by number, from n upwards
 abbrev pub threads_numbered : (ℕ → State → Thread) → ℕ → List State → List Thread
 threads_numbered thread n [] = []
 threads_numbered thread n (guest ∷ guests) = thread n guest ∷ threads_numbered thread (n + 1) guests
@@ -110,13 +114,13 @@ private_of own guests trace = record {
 abbrev pub state_at : List State → Tid → State
 state_at guests t = slice_index_or guests t.0 at_start
 
--- the guests after a poll of a call: its caller's moves on once the call replies
+-- the guests after a poll of a call: its caller's continues once the call replies
 abbrev pub guests_after : Setup → Tid → Option Reply → List State → List State
 guests_after setup t None guests = guests
 guests_after setup t (Some reply) guests =
     slice_set guests t.0 (after_answer (Some reply) (next_of (program_of setup t) (state_at guests t)) (state_at guests t))
 
--- the trace after a poll: an effect writes its entry in the poll in which it comes
+-- the trace after a poll: an effect writes its entry in the poll in which it occurs
 abbrev pub trace_after : CpuId → Tid → BufId → (before after : Option Effect) → List Entry → List Entry
 trace_after c t b None (Some f) trace = trace ++ entry_of c t b f ∷ []
 trace_after c t b before after trace = trace
@@ -126,7 +130,7 @@ abbrev pub private_after : Setup → CpuId → Tid → TowerCall → Buffering �
 private_after setup c t call own guests trace left = private_of left.own (guests_after setup t left.answer guests)
     (trace_after c t (buffer_of call) (going (call_state_of own.call_states t) call).effect (call_state_of left.own.call_states t).effect trace)
 
--- the guests after a poll of a pass: that of a thread which has yielded moves on
+-- the guests after a poll of a pass: that of a thread which has yielded continues
 abbrev pub guests_passed : Setup → Pass → Option Tid → Option (Unit {0}) → List State → List State
 guests_passed setup pass.YieldNow (Some t) (Some answer) guests =
     slice_set guests t.0 (after_yield (next_of (program_of setup t) (state_at guests t)) (state_at guests t))

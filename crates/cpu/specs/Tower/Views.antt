@@ -1,4 +1,4 @@
--- The layers seen as the step table: the table's name of each section, its block and its answer.
+-- The layers viewed as the step table: the table's name of each section, its block and its result.
 use Rattle.std.specs.Prelude.{◌≡◌, ℕ}
 use Rattle.{event_log.specs.{declared.{entries.Kind.Kind, ids.Tid.Tid}, Messages.Message}, layer_traits.specs.declared.locked.QEdit.TheVariants.Acquire}
 use Rattle.layer_traits.specs.declared.locked.{QEdit.TheVariants.{Inside, Release}, QOut.QOut, Side.{Side, TheVariants.{Receivers, Senders}}}
@@ -18,7 +18,7 @@ use Rattle.layer_traits.specs.declared.queue_edits.QueueBlock.TheVariants as blo
 use Rattle.layer_traits.specs.declared.queue_edits.QueueEdit.TheVariants as queue
 use Rattle.layer_traits.specs.declared.queue_edits.QueueAnswer.TheVariants as told
 
--- the names, answers and blocks of the layers' sections
+-- the names, results and blocks of the layers' sections
 abbrev pub TowerName : Type 0
 TowerName = QueueEdit (CvCall BufferEdit)
 
@@ -67,7 +67,7 @@ code (SigSend t) = queue.Above (Inside (SignalFront t Senders))
 code (RelQ t) = queue.Above (Release (Leave t))
 code (WaitOn t side) = queue.Above (Release (Wait t side))
 
--- a lock with its lists round a buffer
+-- a lock with its lists around a buffer
 abbrev pub buffer_view : LockState BufferState → Buffer
 buffer_view state = record {
   busy = state.owner;
@@ -90,7 +90,7 @@ abbrev pub view : TowerBlock → Block
 view (block.Queue threads homes) = OfPending threads
 view (block.Above state) = OfBuffer (buffer_view state)
 
--- what an effect of this kind tells: a try that found the buffer closed tells no message
+-- what an effect of this kind reports: a try that found the buffer closed reports no message
 abbrev pub report_of : Kind → ℕ → Message → Reported
 report_of kind.Send op m = Done op m
 report_of kind.Recv op m = Done op m
@@ -98,7 +98,7 @@ report_of kind.Close op m = Done op m
 report_of kind.SendClosed op m = WasClosed op
 report_of kind.RecvClosed op m = WasClosed op
 
--- what the answers of the layers tell
+-- what the results of the layers report
 abbrev pub report_above : BufferOut → Reported
 report_above (out.Entered pos) = Position pos
 report_above out.NotYet = NotYet
@@ -117,14 +117,14 @@ report_in lock.Queued = Nothing
 report_in (lock.Did o) = report_inside o
 report_in (lock.Released o) = Nothing
 
--- an answer of the layers
+-- a result of the layers
 abbrev pub answer_view : TowerAnswer → Answer
 answer_view told.Done = reports Nothing
 answer_view (told.Taken threads) = reports (Drained threads)
 answer_view (told.Answer o) = record { told = report_in o.out; slept = o.slept; woke = o.woke }
 
--- the layers' sections are the table's, each with one name; the blocks that they leave and their answers are seen as the table's,
--- of every section on every block
+-- the layers' sections are the table's, each with one name; the blocks that they leave and their
+-- results are viewed as the table's, for every section on every block
 pub record TablesAgree : Type 0 where
   pub names : (n : Name) → name_of (code n) ≡ n
   pub codes : (e : TowerName) → code (name_of e) ≡ e

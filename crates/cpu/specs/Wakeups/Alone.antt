@@ -1,4 +1,4 @@
--- A call of a CPU that runs alone: how many steps it takes.
+-- A call without contention: how many steps it takes if only its CPU steps.
 use Rattle.std.specs.Prelude.{◌≡◌, ℕ, ◌+◌, ◌≤◌, ◌<◌, Bool, false, not, [], ◌∷◌, ◌++◌, Option, Some, None, slice_get, if◌then◌else◌}
 use Rattle.event_log.specs.declared.{ids.{CpuId.CpuId, Tid.Tid, BufId.BufId, LockId.TheVariants.Buffer as AtBuffer}, entries.Kind.Kind}
 use Rattle.event_log.specs.declared.entries.{Kind.TheVariants.{Send as SendKind, Recv as RecvKind, Close as CloseKind, SendClosed, RecvClosed}, Entry.Entry}
@@ -15,13 +15,15 @@ IsCallOn Receives b (Recv d into k) = d ≡ b
 IsCallOn Closes b (Close d) = d ≡ b
 IsCallOn asks b line = ⊥
 
--- nobody stands in the line of such a call; a close has none
+-- the line of such a call is empty; a close has none
 abbrev pub HasEmptyLine : Group → Buffer → Type 0
 HasEmptyLine Sends k = k.send_line ≡ []
 HasEmptyLine Receives k = k.receive_line ≡ []
 HasEmptyLine Closes k = Unit {0}
 
--- CPU c rests, no lock is taken or asked for, and its thread t stands at a call that has not begun, which its buffer allows and whose line is empty
+-- CPU c rests and is not halted, no spin lock is held or requested, and the running thread t is at
+-- a call that has not begun; no thread owns its buffer, which allows the call, and the call's line
+-- is empty
 pub record IsReady (setup : Setup) (c : CpuId) (s : Whole) (p : Private) (t : Tid) : Type 0 where
   pub free : AreFree s.log
   pub rests : phase c s.log ≡ Rests
@@ -41,7 +43,8 @@ pub record IsReady (setup : Setup) (c : CpuId) (s : Whole) (p : Private) (t : Ti
   pub allowed : Allows block effect message
   pub empty_line : HasEmptyLine asks block
 
--- the thread is inside no call, and the trace of its CPU has one entry more, of this thread, kind and buffer
+-- the thread is inside no call, and the trace of its CPU has one entry more, of this thread, kind
+-- and buffer
 pub record HasReturned (s : Whole) (c : CpuId) (p : Private) (t : Tid) (kind : Kind) (b : BufId) : Type 0 where
   pub now : Private
   pub here : slice_get s.cpus c.0 ≡ Some now
@@ -57,7 +60,7 @@ pub record IsInCall (s : Whole) (c : CpuId) (t : Tid) : Type 0 where
   pub call : Call
   pub inside : (thread_at now t).call ≡ Some call
 
--- the first of a line, where it waits
+-- the first of a line, if it waits
 abbrev pub first_waiter : Side → Buffer → Option Tid
 first_waiter side k = if front_stands_in (line_on side k) (waiting_of side k) then front (line_on side k) else None
 
@@ -66,12 +69,13 @@ abbrev pub is_away : Setup → CpuId → Option Tid → Bool
 is_away setup c None = false
 is_away setup c (Some u) = not (same_cpu (home_cpu setup u) c)
 
--- three steps more for a woken thread of another CPU, to put it among the pending there
+-- three steps more for a woken thread of another CPU, to append it to the pending threads there
 abbrev pub steps_to_move : Setup → CpuId → Option Tid → ℕ
 steps_to_move setup c woke = if is_away setup c woke then 3 else 0
 
--- How many steps such a call takes. A send and a receive have six sections of three steps each, and wake the first of the other side's
--- line, where that waits; one that finds its buffer closed wakes nobody. A close has five sections, and wakes the first of each line.
+-- How many steps such a call takes. A send and a receive have six sections of three steps each, and
+-- wake the first of the other side's line, if that thread waits. A call that finds its buffer
+-- closed wakes no thread. A close has five sections, and wakes the first of each line.
 abbrev pub steps_to_return : Setup → CpuId → Kind → Buffer → ℕ
 steps_to_return setup c SendKind k = 18 + steps_to_move setup c (first_waiter Receivers k)
 steps_to_return setup c RecvKind k = 18 + steps_to_move setup c (first_waiter Senders k)
@@ -79,11 +83,12 @@ steps_to_return setup c SendClosed k = 18
 steps_to_return setup c RecvClosed k = 18
 steps_to_return setup c CloseKind k = 15 + (steps_to_move setup c (first_waiter Receivers k) + steps_to_move setup c (first_waiter Senders k))
 
--- such a call takes effect and returns after just so many steps of its CPU: one step before it is still under way
+-- such a call takes effect and returns after exactly so many steps of its CPU: one step earlier it
+-- is still under way
 abbrev pub CallsReturnAlone : Type 0
 CallsReturnAlone = (setup : Setup) (room : ℕ) (s : Whole) (c : CpuId) (p : Private) (t : Tid) → AreFew setup → IsReached setup room s
     → (ready : IsReady setup c s p t) → s.taken + 21 ≤ s.room
     → HasReturned (steps_by setup c (steps_to_return setup c ready.effect ready.block) s) c p t ready.effect ready.buffer
     × ((n : ℕ) → n + 1 ≡ steps_to_return setup c ready.effect ready.block → IsInCall (steps_by setup c n s) c t)
-    -- a close wakes a thread of both lines only where the buffer has no room at all
+    -- a close wakes a thread of both lines only if the buffer has no room at all
     × (ready.effect ≡ CloseKind → 18 < steps_to_return setup c ready.effect ready.block → ready.block.capacity ≡ 0)

@@ -1,4 +1,5 @@
--- No wake-up is lost: whoever is the first of its line, is asleep beside a free lock and has something to do, does not exist.
+-- No lost wake-up: no thread that is the first of its line and can take effect sleeps beside a free
+-- lock.
 use Rattle.std.specs.Prelude.{◌≡◌, ℕ, ◌≤◌, ◌<◌, true, List, [], Some, None}
 use Rattle.event_log.specs.{declared.{ids.{CpuId.CpuId, Tid.Tid, BufId.BufId, LockId.TheVariants.Buffer as AtBuffer}, entries.Kind.Kind}, Messages.Message}
 use Rattle.event_log.specs.{Buffers.IsAllowedEffect, Runs.{Sends, Receives, group_of}, History.own_events, Actions.{Action, cpu_of_action}, Sections.Section}
@@ -10,8 +11,8 @@ use Rattle.layer_traits.specs.declared.locked.Side.{Side}
 abbrev pub Allows : Buffer → Kind → Message → Type 0
 Allows k e m = IsAllowedEffect e k.closed k.capacity k.items m
 
--- while nobody owns the lock, the first of neither line waits although the buffer allows an effect of its call: one that serves it, or
--- the answer that the buffer is closed
+-- while no thread owns the lock, the first of neither line waits although the buffer allows an
+-- effect of its call: one that serves it, or the reply that the buffer is closed
 pub record NoWakeUpIsLost (k : Buffer) : Type 0 where
   pub on : (side : Side) → k.busy ≡ None → (t : Tid) (m : Message) → front (line_on side k) ≡ Some t → stands_in t (waiting_of side k) ≡ true
       → (e : Kind) → group_of e ≡ on_side side Receives Sends → Allows k e m → ⊥
@@ -20,35 +21,36 @@ pub record NoWakeUpIsLost (k : Buffer) : Type 0 where
 abbrev pub LosesNoWakeUp : Setup → List (Action Name) → Type 0
 LosesNoWakeUp setup log = (b : BufId) (k : Buffer) → block_at setup (AtBuffer b) log ≡ Some (OfBuffer k) → NoWakeUpIsLost k
 
--- sections in the order of their calls lose no wake-up, whoever does them when
+-- sections in the order that their calls prescribe lose no wake-up, under every interleaving
 abbrev pub OrderLosesNoWakeUp : Type 0
 OrderLosesNoWakeUp = (setup : Setup) (sections : List (Section Name)) → IsInOrder setup sections
     → (b : BufId) (k : Buffer) → block_of setup (AtBuffer b) sections ≡ Some (OfBuffer k) → NoWakeUpIsLost k
 
--- in every state that a system reaches the sections are in the order of their calls
+-- in every state that a system reaches, the sections are in the order that their calls prescribe
 abbrev pub SystemsKeepOrder : Type 0
 SystemsKeepOrder = (setup : Setup) (room : ℕ) (s : Whole) → IsReached setup room s → IsInOrder setup (sections_in s.log)
 
--- so no state that a system reaches has lost a wake-up
+-- therefore no state that a system reaches has lost a wake-up
 abbrev pub SystemsLoseNoWakeUp : Type 0
 SystemsLoseNoWakeUp = (setup : Setup) (room : ℕ) (s : Whole) → IsReached setup room s → LosesNoWakeUp setup s.log
 
--- where nobody owns a lock, nobody sleeps at it
+-- while no thread owns a lock, no thread sleeps at it
 abbrev pub FreeLocksHaveNoSleepers : Type 0
 FreeLocksHaveNoSleepers = (setup : Setup) (room : ℕ) (s : Whole) → IsReached setup room s
     → (b : BufId) (k : Buffer) → block_at setup (AtBuffer b) s.log ≡ Some (OfBuffer k) → k.busy ≡ None → k.sleepers ≡ []
 
--- a CPU has done its part of this list of actions by the table
+-- a CPU has done its share of this list of actions according to the table
 pub record RanItsPart (setup : Setup) (c : CpuId) (log : List (Action Name)) : Type 0 where
   pub count : ℕ
   pub last : Private
   pub steps : AlongTable setup c count last log
 
--- each CPU has done its part of this list by the table, and nobody else has a part in it
+-- each CPU has done its share of this list according to the table, and every action of the list is
+-- of one of these CPUs
 pub record IsWorked (setup : Setup) (log : List (Action Name)) : Type 0 where
   pub ran : (c : CpuId) → c.0 < setup.cpus → RanItsPart setup c log
   pub rest : (c : CpuId) → setup.cpus ≤ c.0 → own_events cpu_of_action c log ≡ []
 
--- CPUs that each work by the table on one list lose no wake-up
+-- CPUs that each work according to the table on one list lose no wake-up
 abbrev pub CpusLoseNoWakeUp : Type 0
 CpusLoseNoWakeUp = (setup : Setup) (log : List (Action Name)) → IsWorked setup log → LosesNoWakeUp setup log

@@ -1,9 +1,11 @@
--- Threads and schedules: what CPUs do along one list of actions is a run of the table's system.
+-- Threads and schedules (simulation): what CPUs do along one list of actions is a run of the
+-- table's system.
 use Rattle.std.specs.{Prelude.{◌≡◌, ℕ, ◌<◌, ◌≤◌, List, length, Some, slice_get}, List.All}
 use Rattle.{event_log.specs.{declared.ids.CpuId.CpuId, Actions.Action}, cpu.specs.{Sound.after_steps, Wakeups.Lost.IsWorked}}
 use Rattle.cpu.specs.Table.{Blocks.Name, Setups.Setup, Steps.whole_at_boot}
 
--- Under a schedule the table's system, with room for it, leaves just this list, and each CPU in the private state to which it came along the list.
+-- Under some schedule the table's system, with room for it, leaves exactly this list, and each CPU
+-- in the private state that it reached along the list.
 pub record IsRunOfTable (setup : Setup) (log : List (Action Name)) (worked : IsWorked setup log) : Type 0 where
   pub steps : List CpuId
   pub known : All (λ c. c.0 < setup.cpus) steps
@@ -13,6 +15,6 @@ pub record IsRunOfTable (setup : Setup) (log : List (Action Name)) (worked : IsW
   pub cpus_are : (room : ℕ) → length steps ≤ room → (c : CpuId) → c.0 < setup.cpus
       → (below : c.0 < setup.cpus) × (slice_get (after_steps setup steps (whole_at_boot setup room)).cpus c.0 ≡ Some (worked.ran c below).last)
 
--- so each such work is a run
+-- therefore all such work is a run
 abbrev pub WorkIsARun : Type 0
 WorkIsARun = (setup : Setup) (log : List (Action Name)) (worked : IsWorked setup log) → IsRunOfTable setup log worked

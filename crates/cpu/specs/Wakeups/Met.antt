@@ -1,19 +1,20 @@
--- The premises of the laws on quiet systems and on calls alone are met: by states of the worked runs.
+-- The premises of the laws on quiescent systems and on uncontended calls are met, by states of the
+-- worked runs.
 use Rattle.std.specs.Prelude.{◌≡◌, ◌+◌, ◌≤◌, [], ◌∷◌, Some, None, option_map}
 use Rattle.{layer_traits.specs.declared.call_states.Stage.TheVariants.Releases, cpu.specs.Table.{Setups.Private, Steps.{Whole, IsReached, cpu_numbered}}}
 use Rattle.cpu.specs.Table.{Closing.{closed_apart, closed_aside}, Worked.{thread, of, reached, one_sender, two_sends, two_cpus, call_of}}
 use Rattle.cpu.specs.Wakeups.{Quiet.{AreFew, HomesExist, IsQuietTable}, Alone.IsReady}
 
--- one thread that waits to send into a full buffer; its quiet state
+-- one thread that waits to send into a full buffer; its quiescent state
 abbrev pub waiting_sender : Whole
 waiting_sender = reached two_sends (of 0 32 ∷ [])
 
--- one thread that stands at its send
+-- one thread that is at its send
 abbrev pub at_send : Whole
 at_send = reached one_sender (of 0 2 ∷ [])
 
 pub record PremisesAreMet : Type 0 where
-  -- a quiet state is reached
+  -- a quiescent state is reached
   pub quiet : HomesExist two_sends × IsReached two_sends 1000 waiting_sender × IsQuietTable two_sends waiting_sender
   -- a state is reached at which a call is ready, with room for it
   pub ready : AreFew one_sender × IsReached one_sender 1000 at_send
@@ -24,7 +25,8 @@ pub record PremisesAreMet : Type 0 where
   -- one that wakes a thread of another CPU is under way after 20 steps and has returned after 21
   pub after_21 : (option_map (λ call. call.stage) (call_of 1 1 (reached two_cpus (of 0 13 ∷ of 1 22 ∷ []))) ≡ Some Releases)
       × (call_of 1 1 (reached two_cpus (of 0 13 ∷ of 1 23 ∷ [])) ≡ None)
-  -- a close is under way after 14 steps and has returned after 15; one that wakes a thread of another CPU after 17, and after 18
+  -- a close is under way after 14 steps and has returned after 15; one that wakes a thread of
+  -- another CPU after 17, and after 18
   pub after_15 : (option_map (λ call. call.stage) (call_of 1 1 (reached closed_apart (of 1 15 ∷ []))) ≡ Some Releases)
       × (call_of 1 1 (reached closed_apart (of 1 16 ∷ [])) ≡ None)
   pub close_after_18 : (option_map (λ call. call.stage) (call_of 1 1 (reached closed_apart (of 0 13 ∷ of 1 18 ∷ []))) ≡ Some Releases)

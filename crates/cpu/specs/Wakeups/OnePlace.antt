@@ -1,16 +1,18 @@
--- Every thread has one place: it runs, is ready, is in a hand, is pending, sleeps at a lock or waits at a buffer, and only one of these.
+-- Every thread has exactly one place: it runs, is ready, is in a hand, is pending, sleeps at a lock
+-- or waits at a buffer.
 use Rattle.std.specs.Prelude.{◌≡◌, ℕ, zero, suc, Bool, not, ◌&&◌, nat_lt, List, [], ◌++◌, length, Option, Some, None, slice_get}
 use Rattle.{event_log.specs.declared.ids.{Tid.Tid, LockId.TheVariants.{Pending, Buffer as AtBuffer}}, layer_traits.specs.Threads.Passes.as_list}
 use Rattle.{layer_traits.specs.Threads.Places.{one_if, count_in}, cpu.specs.Table.{Blocks.{Block, OfBuffer, OfPending}, Setups.{Setup, Thread, Private}}}
 use Rattle.cpu.specs.Table.{Setups.{new_thread, thread_at, home_cpu}, Steps.{Whole, IsReached, cpu_numbered, block_at}, Worked.buffer_numbered}
 use Rattle.cpu.specs.Wakeups.Quiet.{HomesExist}
 
--- the threads that a CPU has: the current one, those that are ready, the one in its hand
+-- the threads that a CPU has: the running one, those that are ready, the one in its hand
 abbrev pub own_queues : Option Private → List Tid
 own_queues None = []
 own_queues (Some p) = (as_list p.current ++ p.ready) ++ as_list p.hand
 
--- the threads that a block has; the lines are no places, for whoever stands in line is somewhere else too
+-- the threads that a block has; its lines are no places, because a thread in a line is in a place
+-- elsewhere
 abbrev pub queues_in : Option Block → List Tid
 queues_in None = []
 queues_in (Some (OfBuffer k)) = k.sleepers ++ (k.waiting_receivers ++ k.waiting_senders)
@@ -45,7 +47,8 @@ thread_in_whole setup s t = thread_in (slice_get s.cpus (home_cpu setup t).0) t
 abbrev pub is_live : Setup → Whole → Tid → Bool
 is_live setup s t = nat_lt t.0 (length setup.homes) && not (thread_in_whole setup s t).ended
 
--- in every state that a system reaches each live thread stands in its queues exactly once, and no other number stands there
+-- in every state that a system reaches, each live thread is in its queues exactly once, and no
+-- other number is
 abbrev pub StandInOnePlace : Type 0
 StandInOnePlace = (setup : Setup) (room : ℕ) (s : Whole) → HomesExist setup → IsReached setup room s
     → (t : Tid) → count_in t (everyone setup s) ≡ one_if (is_live setup s t)

@@ -1,11 +1,11 @@
--- What is lost where a call signals the other side alone: a concrete history.
+-- The wake-up that is lost if a call signals only the other side: a concrete history.
 use Rattle.std.specs.Prelude.{◌≡◌, ℕ, List, [], ◌∷◌, Some}
 use Rattle.event_log.specs.{declared.ids.LockId.TheVariants.Buffer as AtBuffer, Messages.Message, Sections.Section}
 use Rattle.{layer_traits.specs.declared.locked.Side.TheVariants.{Receivers, Senders}, cpu.specs.Table.Blocks.{Buffer, OfBuffer, Name, AcqQ, Enter, TryPut}}
 use Rattle.cpu.specs.Table.{Blocks.{TryTake, Shut, WaitOn, SigRecv, SigSend, RelQ}, Setups.Setup, Steps.cpu_numbered, Worked.{thread, buffer_numbered}}
 use Rattle.cpu.specs.{Table.Worked.setup_of, Wakeups.{Order.block_of, Lost.NoWakeUpIsLost}}
 
--- three threads, each at home on the CPU of its number, and one buffer for two messages
+-- three threads, the home of each the CPU of its number, and one buffer for two messages
 abbrev pub three_threads : Setup
 three_threads = setup_of 3 (0 ∷ 1 ∷ 2 ∷ []) [] (2 ∷ []) 4
 
@@ -27,7 +27,7 @@ sender_sends m =
     ∷ by 2 (AcqQ (thread 2))
     ∷ []
 
--- the first receiver was woken, takes its message, and signals the senders alone
+-- the first receiver was woken, takes its message, and signals only the senders
 abbrev pub receiver_signals_senders : List (Section Name)
 receiver_signals_senders = by 0 (RelQ (thread 0)) ∷ by 0 (SigSend (thread 0)) ∷ by 0 (TryTake (thread 0)) ∷ by 0 (AcqQ (thread 0)) ∷ []
 
@@ -35,13 +35,15 @@ abbrev pub in_visit : List (Section Name) → List (Section Name) → List (Sect
 in_visit [] past = past
 in_visit (s ∷ later) past = s ∷ in_visit later past
 
--- two receivers wait, two messages are sent, and the first receiver, the only one that was woken, takes one of them
+-- two receivers wait, two messages are sent, and the first receiver, the only one that was woken,
+-- takes one of them
 abbrev pub one_signal_log : List (Section Name)
 one_signal_log =
     in_visit receiver_signals_senders
     (in_visit (sender_sends (8 ∷ [])) (in_visit (sender_sends (7 ∷ [])) (in_visit (waiting_sections 1) (waiting_sections 0))))
 
--- then a message is left, nobody owns the lock, and the second receiver, the first of its line, sleeps beside it
+-- then a message is left, no thread owns the lock, and the second receiver, the first of its line,
+-- sleeps beside it
 abbrev pub OneSignalLosesAWakeUp : Type 0
 OneSignalLosesAWakeUp = (k : Buffer) × (block_of three_threads (AtBuffer (buffer_numbered 0)) one_signal_log ≡ Some (OfBuffer k)) × (NoWakeUpIsLost k → ⊥)
 
@@ -50,14 +52,16 @@ abbrev pub closer_closes : List (Section Name)
 closer_closes =
     by 2 (RelQ (thread 2)) ∷ by 2 (SigSend (thread 2)) ∷ by 2 (SigRecv (thread 2)) ∷ by 2 (Shut (thread 2)) ∷ by 2 (AcqQ (thread 2)) ∷ []
 
--- the first receiver was woken, finds the buffer closed, and signals nobody
+-- the first receiver was woken, finds the buffer closed, and signals no thread
 abbrev pub receiver_signals_nobody : List (Section Name)
 receiver_signals_nobody = by 0 (RelQ (thread 0)) ∷ by 0 (TryTake (thread 0)) ∷ by 0 (AcqQ (thread 0)) ∷ []
 
--- two receivers wait, the buffer is closed, and the first receiver, the only one that was woken, answers that
+-- two receivers wait, the buffer is closed, and the first receiver, the only one that was woken,
+-- reports that
 abbrev pub silent_log : List (Section Name)
 silent_log = in_visit receiver_signals_nobody (in_visit closer_closes (in_visit (waiting_sections 1) (waiting_sections 0)))
 
--- then nobody owns the lock, and the second receiver, the first of its line, sleeps beside a closed buffer
+-- then no thread owns the lock, and the second receiver, the first of its line, sleeps beside a
+-- closed buffer
 abbrev pub SilentAnswerLosesAWakeUp : Type 0
 SilentAnswerLosesAWakeUp = (k : Buffer) × (block_of three_threads (AtBuffer (buffer_numbered 0)) silent_log ≡ Some (OfBuffer k)) × (NoWakeUpIsLost k → ⊥)

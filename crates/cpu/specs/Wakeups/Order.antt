@@ -1,12 +1,14 @@
--- The order of the sections of one buffer: which section of a call may come when, as the owner of the lock and what it has done tell.
+-- The order of the sections of one buffer: which section of a call may occur when, given the lock's
+-- owner and what it has done.
 use Rattle.std.specs.Prelude.{◌≡◌, ◌≢◌, Bool, true, false, List, [], ◌∷◌, Option, Some, None, if◌then◌else◌}
 use Rattle.event_log.specs.{declared.ids.LockId.{LockId, TheVariants.{Pending, Buffer as AtBuffer}}, History.{same_lock, IsLawful}, Sections.Section}
 use Rattle.{event_log.specs.Sections.block_after, layer_traits.specs.declared.locked.Side.{Side, TheVariants.{Receivers, Senders}}}
 use Rattle.cpu.specs.Table.Blocks.{Buffer, Block, OfBuffer, OfPending, Name, AcqQ, Enter, TryPut, TryTake, Shut, WaitOn, SigRecv, SigSend, RelQ, Pend, TakeAll}
 use Rattle.cpu.specs.Table.{Edits.{edited, may_try}, Setups.{Setup, opening}}
 
--- what the owner of a buffer's lock has done since it got it: nothing, it entered a line, a try of it was in vain, or it took effect and
--- owes the signals that are true. While nobody owns the lock nothing has been done.
+-- what the owner of a buffer's lock has done since it acquired it: nothing, it entered a line, a
+-- try of it failed, or it took effect and owes the signals that are true. While no thread owns the
+-- lock, nothing has been done.
 pub data Progress : Type 0 where
   Begins : Progress
   HasEntered : (side : Side) → Progress
@@ -47,7 +49,7 @@ progress setup lock [] = Begins
 progress setup lock (s ∷ past) =
     if same_lock lock s.lock then progress_by s.edit (block_of setup lock past) (progress setup lock past) else progress setup lock past
 
--- a try may come once its line was entered, and as the first section of an owner that was woken
+-- a try may occur after its line was entered, and as the first section of an owner that was woken
 abbrev pub MayTry : Side → Progress → Type 0
 MayTry side Begins = Unit {0}
 MayTry side (HasEntered line) = line ≡ side
@@ -57,8 +59,9 @@ abbrev pub IsOwing : Progress → Type 0
 IsOwing (Owes receivers senders) = Unit {0}
 IsOwing g = ⊥
 
--- a section may come on the buffer: only the owner edits; it enters or closes at once, waits only where its try was in vain, signals only after
--- an effect, and gives the lock back only once both sides are signalled
+-- A section may occur on the buffer: only the owner edits. It enters or closes at once, waits only
+-- after its try failed, signals only after an effect, and releases the lock only after both sides
+-- are signalled.
 abbrev pub MayEdit : Name → Buffer → Progress → Type 0
 MayEdit (AcqQ t) k g = k.busy ≢ Some t
 MayEdit (Enter t side) k g = (k.busy ≡ Some t) × (g ≡ Begins)
@@ -81,10 +84,10 @@ abbrev pub KeepsOrderAt : Setup → LockId → Name → List (Section Name) → 
 KeepsOrderAt setup (AtBuffer b) name past = MayEditBlock name (block_of setup (AtBuffer b) past) (progress setup (AtBuffer b) past)
 KeepsOrderAt setup (Pending c) name past = Unit {0}
 
--- a section keeps the order of its call
+-- a section keeps the order that its call prescribes
 abbrev pub KeepsOrder : Setup → List (Section Name) → Section Name → Type 0
 KeepsOrder setup past s = KeepsOrderAt setup s.lock s.edit past
 
--- each of these sections keeps the order of its call
+-- each of these sections keeps the order that its call prescribes
 abbrev pub IsInOrder : Setup → List (Section Name) → Type 0
 IsInOrder setup sections = IsLawful (KeepsOrder setup) sections

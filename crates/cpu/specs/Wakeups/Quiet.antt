@@ -1,4 +1,5 @@
--- A quiet system: no CPU has anything to do. It is stuck: no call of a live thread could take effect, whoever steps when.
+-- A quiescent system: no CPU has anything to do, and no thread can make progress. No call of a live
+-- thread can take effect, under any schedule.
 use Rattle.std.specs.Prelude.{◌≡◌, ◌≢◌, ℕ, ◌<◌, ◌≤◌, true, false, [], length, Option, Some, None, slice_get}
 use Rattle.event_log.specs.declared.ids.{CpuId.CpuId, Tid.Tid, BufId.BufId, LockId.TheVariants.{Pending, Buffer as AtBuffer}, TheConstants.THREADS}
 use Rattle.event_log.specs.{declared.entries.Kind.Kind, Messages.Message, Runs.{Group, Sends, Receives, Closes, group_of}, Actions.phase}
@@ -11,22 +12,24 @@ use Rattle.cpu.specs.{Table.{Setups.stands_at, Steps.{Whole, IsReached, block_at
 abbrev pub AreFew : Setup → Type 0
 AreFew setup = length setup.homes ≤ THREADS
 
--- and each is at home on a CPU of this machine
+-- and the home CPU of each is one of this machine
 abbrev pub HomesExist : Setup → Type 0
 HomesExist setup = AreFew setup × ((t : Tid) → t.0 < length setup.homes → (home_cpu setup t).0 < setup.cpus)
 
--- a halted CPU is quiet where each of its threads has ended, any other where nobody runs, is ready or is in its hand
+-- a halted CPU is quiet if each of its threads has ended, any other if no thread runs on it, is
+-- ready or is in its hand
 abbrev pub IsQuietBy : Setup → CpuId → Private → Option Reason → Type 0
 IsQuietBy setup c p (Some reason) = (u : Tid) → home_cpu setup u ≡ c → u.0 < length setup.homes → (thread_at p u).ended ≡ true
 IsQuietBy setup c p None = (p.current ≡ None) × (p.ready ≡ []) × (p.hand ≡ None)
 
--- no section is under way, each CPU is quiet, and nobody is pending
+-- no section is under way, each CPU is quiet, and no thread is pending
 pub record IsQuietTable (setup : Setup) (s : Whole) : Type 0 where
   pub outside : (c : CpuId) → c.0 < setup.cpus → is_in_section (phase c s.log) ≡ false
   pub cpus : (c : CpuId) (p : Private) → slice_get s.cpus c.0 ≡ Some p → IsQuietBy setup c p (halted_at setup c p)
   pub pending : (c : CpuId) → c.0 < setup.cpus → block_at setup (Pending c) s.log ≡ Some (OfPending [])
 
--- what a thread asks next that stands at this instruction: a send, a receive or a close of this buffer, with this message where it sends
+-- what a thread at this instruction asks for next: a send, a receive or a close of this buffer,
+-- with this message if it sends
 abbrev pub IsNextEffect : Instruction → State → Group → BufId → Message → Type 0
 IsNextEffect (Send b from k) s asks d m = (asks ≡ Sends) × (d ≡ b) × (m ≡ message_from s from)
 IsNextEffect (Recv b into k) s asks d m = (asks ≡ Receives) × (d ≡ b)
@@ -38,8 +41,8 @@ IsNextEffect (Jnz r k) s asks d m = ⊥
 IsNextEffect YieldLine s asks d m = ⊥
 IsNextEffect Exit s asks d m = ⊥
 
--- a call that has not taken effect, is what its thread asks next, and whose buffer allows no effect of it: so it is no close, and its
--- buffer is not closed
+-- a call that has not taken effect, is what its thread asks for next, and whose buffer allows no
+-- effect of it: therefore it is no close, and its buffer is not closed
 pub record IsStuckCall (setup : Setup) (s : Whole) (p : Private) (u : Tid) (call : Call) : Type 0 where
   pub unfinished : call.effect ≡ None
   pub next : IsNextEffect (stands_at setup p u) (thread_at p u).guest call.asks call.buffer call.message
@@ -48,13 +51,14 @@ pub record IsStuckCall (setup : Setup) (s : Whole) (p : Private) (u : Tid) (call
   pub no_close : call.asks ≢ Closes
   pub stays_open : (k : Buffer) → block_at setup (AtBuffer call.buffer) s.log ≡ Some (OfBuffer k) → k.closed ≡ false
 
--- a thread that has not ended, at home on a CPU with this private state
+-- a thread that has not ended, whose home is a CPU with this private state
 pub record IsLive (setup : Setup) (s : Whole) (p : Private) (u : Tid) : Type 0 where
   pub known : u.0 < length setup.homes
   pub here : slice_get s.cpus (home_cpu setup u).0 ≡ Some p
   pub alive : (thread_at p u).ended ≡ false
 
--- nobody owns a lock or sleeps at one; each live thread is inside a call that its buffer refuses; and no next effect of a live thread is allowed
+-- no thread owns a lock or sleeps at one; each live thread is inside a call that its buffer does
+-- not allow; and no next effect of a live thread is allowed
 pub record IsStuck (setup : Setup) (s : Whole) : Type 0 where
   pub unowned : (b : BufId) (k : Buffer) → block_at setup (AtBuffer b) s.log ≡ Some (OfBuffer k) → (k.busy ≡ None) × (k.sleepers ≡ [])
   pub threads : (p : Private) (u : Tid) → IsLive setup s p u → (call : Call) × ((thread_at p u).call ≡ Some call) × IsStuckCall setup s p u call
@@ -62,6 +66,6 @@ pub record IsStuck (setup : Setup) (s : Whole) : Type 0 where
       → group_of e ≡ asks → IsNextEffect (stands_at setup p u) (thread_at p u).guest asks b m
       → (k : Buffer) → block_at setup (AtBuffer b) s.log ≡ Some (OfBuffer k) → Allows k e m → ⊥
 
--- a quiet state that a system reaches is stuck
+-- in a quiescent state that a system reaches, no thread can make progress
 abbrev pub QuietIsStuck : Type 0
 QuietIsStuck = (setup : Setup) (room : ℕ) (s : Whole) → HomesExist setup → IsReached setup room s → IsQuietTable setup s → IsStuck setup s

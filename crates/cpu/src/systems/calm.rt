@@ -1,5 +1,5 @@
-//! What a system tells for the question whether it is quiet, and how long its traces are. No call
-//! takes memory or waits.
+//! Whether each CPU is calm (idle or ended), as all CPUs of a quiet system are, and how long its
+//! traces are. No function allocates or blocks.
 
 ghost use Rattle.std.specs.Prelude.{◌≡◌, ◌<◌, length};
 ghost use Rattle.{layer_traits.specs.Views.OwnParts.threads_in, cpu.specs.Calm.rests};
@@ -8,8 +8,8 @@ use crate::systems::System;
 use event_log::CpuId;
 use layer_traits::{CallLayer, IpcLaw, Owned, Reason};
 
-/// Whether a CPU of this part has no section under way, nobody runs or is ready on it, and its hand
-/// is empty.
+/// Whether a CPU of this part has no section under way, no running or ready thread, and an empty
+/// hand.
 fn rests<I: CallLayer<IpcLaw>>(part: &I) -> bool
     ensures { result ≡ rests (I.is_inside part.now) (threads_in (I.own part.now)) }
 {
@@ -22,9 +22,9 @@ where
 {
     ghost use Rattle.cpu.specs.Calm.{TracesFit, calm_in};
 
-    /// Whether `cpu`, which must exist, is calm: a halted CPU where each of its threads has ended,
-    /// any other where it has no section under way, nobody runs or is ready on it, and its hand is
-    /// empty. A system is quiet where each CPU is calm and no thread pends.
+    /// Whether `cpu`, which must exist, is calm. A halted CPU is calm if each of its threads has
+    /// ended. Any other is calm if it has no section under way, no running or ready thread, and an
+    /// empty hand. A system is quiet if each CPU is calm and no thread is pending.
     ///
     /// Requires: the system has a CPU of this number.
     pub(super) fn is_calm(&self, cpu: CpuId) -> bool
@@ -38,8 +38,7 @@ where
         }
     }
 
-    /// A law of every system: no CPU's trace has more entries than there is room for. It computes
-    /// nothing.
+    /// A law of every system: no CPU's trace has more entries than its room. It computes nothing.
     pub fn traces_fit(&self)
         ensures { TracesFit self.now }
     {

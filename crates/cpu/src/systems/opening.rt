@@ -1,4 +1,4 @@
-//! Systems at boot. The calls here take memory. None waits.
+//! Systems at boot. The functions here allocate. None blocks.
 
 ghost use Rattle.std.specs.Prelude.{◌≡◌, ℕ, ◌+◌, ◌≤◌, ◌∷◌, ◌++◌, IfOk, Some, None, [], length, map, replicate, slice_get, slice_index_or, vec_capacity};
 ghost use Rattle.layer_traits.specs.{Views.OwnParts.threads_in, Blocks.{Capacities.caps_in, QueueBlocks.homes_in}, Layers.BufferLaw.buffering_at_start};
@@ -15,11 +15,11 @@ use std::alloc::Global;
 
 impl<I: CallLayer<IpcLaw>> Cpu<I> {
     /// A CPU before its first step, with the guests of its home threads, in a machine of threads of
-    /// these homes and of so many buffers. Its trace has room for `limit` entries.
+    /// these home CPUs and of so many buffers. Its trace has room for `limit` entries.
     ///
     /// Requires: there are at most [`THREADS`](event_log::THREADS) homes.
     ///
-    /// Errors: `NoMemory` if an allocation was refused. Then nothing was made, and the guests are
+    /// Errors: `NoMemory` if an allocation failed. Then nothing was made, and the guests are
     /// dropped.
     pub fn at_boot(
         alloc: Global,
@@ -47,7 +47,7 @@ impl<I: CallLayer<IpcLaw>> Cpu<I> {
     }
 }
 
-/// Puts one CPU more behind the others, for which there is room.
+/// Appends one CPU to the others; room for it is reserved.
 fn put_cpu<I: CallLayer<IpcLaw> + Drop>(cpus: &mut Vec<Cpu<I>>, cpu: Cpu<I>)
     requires { length cpus.old.items + 1 ≤ vec_capacity cpus.old }
     ensures items { cpus.new.items ≡ cpus.old.items ++ cpu ∷ [] }
@@ -77,7 +77,7 @@ fn cpus_at_boot<I: CallLayer<IpcLaw> + Drop>(
     let mut cpus = Vec::with_capacity(alloc, count)?;
     for number in 0..count {
         let guests = tables.remove(0);
-        // A match and no `?`, which would move the CPU's many bytes three times more.
+        // A `match` and no `?`, because `?` would copy the CPU's many bytes three times more.
         match Cpu::at_boot(alloc, CpuId(number as u8), homes, buffers, guests, limit) {
             Ok(cpu) => put_cpu(&mut cpus, cpu),
             Err(error) => return Err(error),
@@ -94,10 +94,10 @@ where
     ghost use Rattle.cpu.specs.{Sound.{BootsByTable, SoundByTable}, Observed.ObservedByTable, Systems.IsSystem, Tables.IsTabled};
     ghost use Rattle.layer_traits.specs.Views.Openings.{AreOpenable};
 
-    /// A system before its first step: buffers of these capacities, threads of these homes, and one
-    /// CPU for each table of guests, each with room for `limit` entries; with room for `room` steps.
-    /// Each CPU's threads are ready by rising number, and every buffer is empty. All memory is taken
-    /// here.
+    /// A system before its first step: buffers of these capacities, threads of these home CPUs, and
+    /// one CPU for each table of guests. Each trace has room for `limit` entries, and the system
+    /// has room for `room` steps. Each CPU's threads are ready by rising number, and every buffer
+    /// is empty. All memory is allocated here.
     ///
     /// Requires: there are 1 to `CPUS` tables. There are at most `BUFFERS` buffers, each of
     /// capacity 1 to `CAPACITY`. There are at most `THREADS` threads, and each home is one of the
@@ -105,7 +105,7 @@ where
     /// the threads of its CPU, and none at the others. Each guest's program names only buffers of
     /// the system.
     ///
-    /// Errors: `NoMemory` if an allocation was refused. Then nothing was made, and the tables are
+    /// Errors: `NoMemory` if an allocation failed. Then nothing was made, and the tables are
     /// dropped.
     pub fn with_tables(
         alloc: Global,
@@ -123,12 +123,12 @@ where
         ensures taken { IfOk result (λ s. s.taken ≡ 0) }
         ensures guests { IfOk result (λ s. map (λ p. p.guests) s.cpus ≡ map (λ table. table.items) tables.items) }
         ensures limits { IfOk result (λ s. map (λ p. p.limit) s.cpus ≡ map (λ table. limit) tables.items) }
-        // It is as the step table has it at boot.
+        // It is in the step table's state at boot.
         ensures boots { IfOk result (λ s. I.IsStepwise → BootsByTable s) }
         ensures sound { IfOk result (λ s. I.IsStepwise → SoundByTable s) }
         ensures observed { IfOk result (λ s. I.IsStepwise → ObservedByTable s) }
 
-        // What holds after every list of steps.
+        // This holds after every list of steps.
         ensures one_order { IfOk result HasOneOrder }
         ensures follow { IfOk result FollowPrograms }
         ensures stay { IfOk result StayHome }
@@ -162,7 +162,7 @@ where
         ensures sound { I.IsStepwise → SoundByTable result }
         ensures observed { I.IsStepwise → ObservedByTable result }
 
-        // What holds after every list of steps.
+        // This holds after every list of steps.
         ensures one_order { HasOneOrder result }
         ensures follow { FollowPrograms result }
         ensures stay { StayHome result }

@@ -1,4 +1,4 @@
-//! The system of a plan. `guests_of` and `System::open` take memory. No call waits.
+//! The system of a plan. `guests_of` and `System::open` allocate. No function blocks.
 
 ghost use Rattle.std.specs.Prelude.{◌≡◌, ◌<◌, IfOk, None, length, map, replicate, slice_index_or};
 ghost use Rattle.{boot.specs.Plan.IsPlan, cpu.specs.Boots.{guests_for, homes_for, tables_for}};
@@ -11,7 +11,7 @@ use event_log::{CpuId, NoMemory, THREADS, Tid};
 use layer_traits::Owned;
 use std::alloc::Global;
 
-/// The home of each thread of a plan.
+/// The home CPU of each thread of a plan.
 pub fn homes_of(boot: &Boot) -> ArrayVec<CpuId, THREADS>
     ensures { result.items ≡ homes_for boot.now }
 {
@@ -22,8 +22,8 @@ pub fn homes_of(boot: &Boot) -> ArrayVec<CpuId, THREADS>
     homes
 }
 
-/// What a CPU has at the number of a thread, which must exist: a new guest where it is the
-/// thread's home.
+/// What a CPU's table has at the number of a thread, which must exist: a new guest if the CPU is
+/// the thread's home.
 fn guest_at(
     alloc: Global,
     boot: &Boot,
@@ -43,8 +43,7 @@ fn guest_at(
 
 /// The guests of a CPU of a plan.
 ///
-/// Errors: `NoMemory` if an allocation was refused. Then nothing was made, and the plan is as it
-/// was.
+/// Errors: `NoMemory` if an allocation failed. Then nothing was made, and the plan is as it was.
 pub fn guests_of(alloc: Global, boot: &Boot, number: CpuId) -> Result<Vec<Option<Guest>>, NoMemory>
     ensures { IfOk result (λ guests. guests.items ≡ guests_for boot.now number.0) }
 {
@@ -75,11 +74,11 @@ where
     ghost use Rattle.cpu.specs.{Claims.{FollowPrograms, HasOneOrder, MovesAgree, StandsOnce, StayHome}, Sound.{BootsByTable, IsSetupFor, SoundByTable}};
     ghost use Rattle.cpu.specs.{Sound.setup_for, Observed.ObservedByTable};
 
-    /// The system of a plan before its first step, with room for `room` steps: each CPU's threads
-    /// are ready by rising number, and every buffer is empty. All memory is taken here.
+    /// The system of a plan before its first step, with room for `room` steps. Each CPU's threads
+    /// are ready by rising number, and every buffer is empty. All memory is allocated here.
     ///
-    /// Errors: `NoMemory` if an allocation was refused. Then nothing was made, and the plan is as
-    /// it was.
+    /// Errors: `NoMemory` if an allocation failed. Then nothing was made, and the plan is as it
+    /// was.
     pub fn open(alloc: Global, boot: &Boot, room: usize) -> Result<System<I>, NoMemory>
         ensures caps { IfOk result (λ s. s.caps ≡ boot.now.caps) }
         ensures homes { IfOk result (λ s. s.homes ≡ homes_for boot.now) }
@@ -88,14 +87,14 @@ where
         ensures room { IfOk result (λ s. s.room ≡ room) }
         ensures taken { IfOk result (λ s. s.taken ≡ 0) }
         ensures plan { IsPlan boot.now }
-        // The plan says the system's setup of the step table, and the system is as the table has
-        // it at boot.
+        // The plan determines the system's setup of the step table, and the system is in the
+        // table's state at boot.
         ensures planned { IfOk result (IsSetupFor (setup_for boot.now)) }
         ensures boots { IfOk result (λ s. I.IsStepwise → BootsByTable s) }
         ensures sound { IfOk result (λ s. I.IsStepwise → SoundByTable s) }
         ensures observed { IfOk result (λ s. I.IsStepwise → ObservedByTable s) }
 
-        // What holds after every list of steps.
+        // This holds after every list of steps.
         ensures one_order { IfOk result HasOneOrder }
         ensures follow { IfOk result FollowPrograms }
         ensures stay { IfOk result StayHome }

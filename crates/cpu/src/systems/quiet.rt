@@ -1,4 +1,4 @@
-//! Whether a system is quiet. No call takes memory or waits.
+//! Whether a system is quiet (quiescent). No function allocates or blocks.
 
 ghost use Rattle.std.specs.Prelude.{◌≡◌, ◌<◌, ◌↔◌, true, length};
 
@@ -13,15 +13,18 @@ where
     ghost use Rattle.{event_log.specs.declared.ids.CpuId.CpuId, layer_traits.specs.Threads.Places.{IsPending, where_is}, cpu.specs.Calm.AllQueuesEmpty};
     ghost use Rattle.cpu.specs.{Calm.{IsQuiet, calm_in}, Sound.IsSetupFor, Systems.whole_of, Table.Setups.Setup, Observed.IsStill, Wakeups.Quiet.IsQuietTable};
 
-    /// Whether the system is quiet: each CPU that is not halted has no current thread, nobody ready,
-    /// an empty hand and no section under way; each thread of a halted CPU has ended; and all pending
-    /// queues are empty.
+    /// Whether the system is quiet (quiescent):
+    ///
+    /// - Each CPU that is not halted has no running or ready thread, an empty hand and no section
+    ///   under way.
+    /// - Each thread of a halted CPU has ended.
+    /// - All pending queues are empty.
     pub fn is_quiet(&self) -> bool
         ensures is { result ≡ true ↔ IsQuiet self.now }
-        // It is quiet exactly where the step table has it quiet.
+        // The system is quiet exactly if the step table's state is.
         ensures table { I.IsStepwise → (setup : Setup) → IsSetupFor setup self.now → (result ≡ true ↔ IsQuietTable setup (whole_of self.now)) }
-        // And then no live thread has a next call that its buffer allows, nobody owns a lock, and
-        // nobody sleeps at one.
+        // Then no live thread has a next call that its buffer allows, no thread owns a lock, and
+        // none sleeps at one.
         ensures still { I.IsStepwise → result ≡ true → IsStill self.now }
     {
         self.holds();

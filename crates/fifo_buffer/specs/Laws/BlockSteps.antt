@@ -8,7 +8,7 @@ use Rattle.layer_traits.specs.Blocks.BufferBlocks.{BufferState, effect_kind, fir
 use Rattle.{layer_traits.{specs.Blocks.{BufferBlocks.taken_out, BufferEffects.entry}, proofs.ItemLemmas.{drop_one, one_more}}, thread_blocks.specs.Queues.rest}
 use Rattle.{thread_blocks.proofs.Members.same_tid_true, fifo_buffer.specs.{BlockSteps.{BlockStep, kind_on, one_on}, Tallies.{IsNumbered, drawn_by, line_by}}}
 
--- who stands first in a line has its first number, and the others have those behind
+-- the first thread of a line has the line's first number, and the others have those after it
 first_numbered : (position : Tid → ℕ) (n next : ℕ) (t : Tid) (queue : List Tid) → is_first t queue ≡ true → IsNumbered position n next queue
     → (position t ≡ n % 2 ^ 64) × IsNumbered position (n + 1) next (rest queue)
 first_numbered position n next t [] leads numbered = absurd cc
@@ -50,7 +50,7 @@ take_items [] = refl
 take_items (m ∷ items) = rw (some_item m items) (sym (drop_one (m ∷ items)))
 
 module _ (cpu : CpuId) (d : BufId) (t : Tid) (position : Group → Tid → ℕ) (x : BufferState) where
-  -- a put at its section poll is a step of the sends: where the buffer is closed nothing is put
+  -- a put at its section poll is a step of the sends: if the buffer is closed, nothing is put
   pub put_step : (m : Message) → is_next Senders t x ≡ true
       → BlockStep Sends (entry cpu t (effect_kind Senders x) d m x.effects (position Sends t)) position x (put_in m x)
   put_step m next =
@@ -73,7 +73,8 @@ module _ (cpu : CpuId) (d : BufId) (t : Tid) (position : Group → Tid → ℕ) 
       lines leads Receives n numbered = numbered
       lines leads Closes n numbered = numbered
 
-  -- a take at its section poll is a step of the receives: where there is no item the buffer is closed, and nothing is taken
+  -- a take at its section poll is a step of the receives: if there is no item, the buffer is
+  -- closed, and nothing is taken
   pub take_step : is_next Receivers t x ≡ true
       → BlockStep Receives (entry cpu t (effect_kind Receivers x) d (first_item x.items) x.effects (position Receives t)) position x (taken_out x)
   take_step next =

@@ -1,5 +1,5 @@
--- A block goes on telling its effects, whatever comes next. So after any sections each buffer does, and each effect may come after those
--- before it.
+-- A block accounts for its effects, and still does after any further section. Therefore, after any
+-- sections each buffer does, and each effect may follow those before it.
 use Rattle.std.proofs.Common.{◌≡◌, ℕ, ◌+◌, ◌<◌, ◌%◌, ◌^◌, Bool, true, false, ◌&&◌, ◌==◌, List, [], ◌∷◌, ◌++◌, length, Option, Some, None, option_map}
 use Rattle.std.proofs.{Common.{option_to_list, slice_get, if◌then◌else◌, refl, ap, sym, ◌∙◌, subst, arith}, lemmas.Bool.{eqb-false, eqb-true, ne_eqb, or_parts}}
 use Rattle.std.proofs.lemmas.{List.{get_or-set_other, get_or-set_same, length-map, length-set}, Option.{get_or_from_slice_get, same_Some, slice_get_within}}
@@ -15,7 +15,7 @@ use Rattle.fifo_buffer.specs.Tallies.{IsNumbered, Tally, by_side, drawn_by, line
 
 -- Numbers along a line.
 
--- what holds of each thread, or of each but one that does not stand in a line, holds along it
+-- what holds of each thread, or of each except one that is not in a line, holds along the line
 pub all_along : (P : Tid → Type 0) (queue : List Tid) → ((t : Tid) → P t) → AllByRecursion P queue
 all_along P [] each = tt
 all_along P (t ∷ queue) each = (each t, all_along P queue each)
@@ -30,19 +30,19 @@ renumbered : (p q : Tid → ℕ) (n next : ℕ) (queue : List Tid) → AllByRecu
 renumbered p q n next [] same numbered = numbered
 renumbered p q n next (t ∷ queue) same numbered = (same.0 ∙ numbered.0, renumbered p q (n + 1) next queue same.1 numbered.1)
 
--- who enters draws the position behind the line
+-- a thread that enters draws the position after the line's last
 numbered_behind : (p : Tid → ℕ) (n next : ℕ) (u : Tid) (queue : List Tid) → p u ≡ next → IsNumbered p n next queue
     → IsNumbered p n (counted next) (queue ++ u ∷ [])
 numbered_behind p n next u [] drew numbered = (drew ∙ numbered, one_more next n numbered)
 numbered_behind p n next u (t ∷ queue) drew numbered = (numbered.0, numbered_behind p (n + 1) next u queue drew numbered.1)
 
--- What a block tells, one section further.
+-- What a block records, one section further.
 
--- the threads in line have these positions by both
+-- the threads in the line have these positions in both
 abbrev pub Agree : (Group → Tid → ℕ) → (Group → Tid → ℕ) → BufferState → Type 0
 Agree p q x = (g : Group) → AllByRecursion (λ t. q g t ≡ p g t) (line_by g x)
 
--- an effect, if there is one, may come, and the block tells the effects with it
+-- an effect, if there is one, may occur, and the block accounts for the effects with it
 abbrev pub Steps : List ℕ → ℕ → List Entry → Option Entry → (Group → Tid → ℕ) → BufferState → Type 0
 Steps caps b es effect position x = ((e : Entry) → effect ≡ Some e → MayTakeEffect caps es e) × Tally caps b (option_to_list effect ++ es) position x
 
@@ -162,7 +162,8 @@ no_items = []
 
 module _ {E B : Type 0} (edited : E → B → B) (O : LockId → Option B) (caps : List ℕ) (view : B → BufferState)
     (position : BufId → List (Section E) → Group → Tid → ℕ) where
-  -- after these sections each buffer tells these effects, and each of them may come after those before it
+  -- after these sections each buffer accounts for these effects, and each of them may follow those
+  -- before it
   abbrev pub Kept : List (Section E) → List Entry → Type 0
   Kept past es = ((b : BufId) (x : B) → block_after edited O (Buffer b) past ≡ Some x → Tally caps b.0 es (position b past) (view x))
       × IsLawful (MayTakeEffect caps) es

@@ -1,4 +1,4 @@
--- The laws of the layer of buffers, from those of the conditions beneath.
+-- The laws of the layer of buffers, derived from those of the layer of conditions below.
 use Rattle.std.proofs.Common.{◌≡◌, List, length, Option, Some, None, refl, ap}
 use Rattle.layer_traits.specs.Blocks.{Capacities.caps_in, BufferEffects.{MayTakeEffect, effects_in, fresh_lock}, BufferProtocol.BufferLock}
 use Rattle.layer_traits.specs.{Blocks.{BufferProtocol.buffer_monitor_rules, QueueBlocks.{homes_in, inner}}, declared.buffer_edits.BufferEdit.BufferEdit}
@@ -10,13 +10,13 @@ use Rattle.{event_log.specs.{declared.ids.{LockId.TheVariants.Buffer, Tid.Tid}, 
 use Rattle.fifo_buffer.specs.{Laws.{Tallies.effects_lawful, WaitLists.lists_agree}, SectionPolls.{BufferEvent, under_way_at}}
 use Rattle.layer_traits.specs.declared.scheds.SchedCall.TheVariants as sched
 
--- each effect may come after those before it
+-- each effect may follow those before it
 pub fifo_lawful : (opening : LockId → Option (QueueBlock BufferLock)) (past : List BufferEvent) → BootsSo opening
     → IsLawful (QueueAllowed (lock_kernel (cv_rules buffer_monitor_rules) opening)) past → IsLawful (MayTakeEffect (caps_in opening))
     (effects_in (inner opening) (buffer_sections past))
 fifo_lawful opening past boots lawful = effects_lawful opening (caps_in opening) boots past lawful
 
--- the waiting lists of the buffers agree with the places
+-- the wait lists of the buffers agree with the places of the threads
 pub fifo_wait_lists : (opening : LockId → Option (QueueBlock BufferLock)) (past : List BufferEvent) → BootsSo opening
     → LocksAgree (cv_rules buffer_monitor_rules) opening past
     → WaitListsAgree (length (caps_in opening)) (homes_in opening) (moves_in (lock_kernel (cv_rules buffer_monitor_rules) opening) past)
@@ -26,7 +26,7 @@ fifo_wait_lists opening past boots agree =
     (homes_in opening) (moves_in (lock_kernel (cv_rules buffer_monitor_rules) opening) past) (λ d. ap (λ locks. locks (Pending d)) boots)
     (λ b. ap (λ locks. locks (Buffer b)) boots) (λ line. refl) agree
 
--- a CPU that is at nothing has no call under way beneath
+-- a CPU on which nothing is under way has no call under way in the layer below
 pub no_call_beneath : (opening : LockId → Option (QueueBlock BufferLock)) (c : CpuId) (past : List BufferEvent) (own : Waiting BufferOut)
     (call_states : List CallState) (under_way : Option (SchedCall (CvCall BufferEdit))) (calling : Option Tid)
     → PartFits opening c past own call_states under_way calling → under_way_at calling under_way ≡ None → under_way ≡ None

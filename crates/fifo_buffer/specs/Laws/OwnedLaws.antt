@@ -1,4 +1,5 @@
--- What the conditions beneath tell of their locks, the buffers tell of their items, owners and waiting lists.
+-- The buffers report their items, owners and wait lists from the locks that the conditions below
+-- report.
 use Rattle.std.proofs.Common.{◌≡◌, ◌<◌, List, [], ◌∷◌, ◌++◌, length, map, Option, Some, None, IsSome, option_map, option_to_list, slice_index, refl, ap, sym}
 use Rattle.std.{proofs.{Common.{◌∙◌, subst}, lemmas.Option.slice_get-get_or}, specs.List.AllByRecursion}
 use Rattle.layer_traits.specs.Blocks.{Capacities.caps_in, BufferEffects.{contents_of, drawn, effect_of, effects_in, fresh_lock}, BufferProtocol.BufferLock}
@@ -44,14 +45,14 @@ module _ (opening : LockId → Option (QueueBlock BufferLock)) (boots : BootsSo 
       let lock = found past in
       ap (option_map items_in) lock.1 ∙ ap Some (sym (all_tallied opening (caps_in opening) boots past lawful b lock.0 lock.1).items)
 
-  -- and it is closed where one of them closed it
+  -- and it is closed exactly if one of them closed it
   pub closed_read : (past : List BufferEvent) → IsLawful (QueueAllowed (lock_kernel (cv_rules buffer_monitor_rules) opening)) past
       → option_map closed_of (buffer_lock_of opening past b) ≡ Some (is_closed (effects_in (inner opening) (buffer_sections past)) b.0)
   closed_read past lawful =
       let lock = found past in
       ap (option_map closed_of) lock.1 ∙ ap Some (sym (all_tallied opening (caps_in opening) boots past lawful b lock.0 lock.1).closed)
 
-  -- and where they are those of the actions' sections, they are what these leave in its lock
+  -- and if they are those of the actions' sections, they are what these leave in its lock
   pub items_acted : (past : List BufferEvent) (acts : BufferActs) → StartsWell opening → AreProper (sections_in acts)
       → past ≡ map event_of (sections_in acts) → IsLawful (QueueAllowed (lock_kernel (cv_rules buffer_monitor_rules) opening)) past
       → ItemsAre opening acts b (items_of (contents_of (caps_in opening) (effects_in (inner opening) (buffer_sections past))) b.0)

@@ -1,4 +1,5 @@
--- A buffer's block tells its effects after any lawful sections; so each effect may come after those before it.
+-- A buffer's block accounts for its effects after any lawful sections; therefore each effect may
+-- follow those before it.
 use Rattle.std.proofs.Common.{◌≡◌, ℕ, Bool, true, false, ◌&&◌, ◌==◌, List, [], ◌∷◌, Option, Some, None, if◌then◌else◌, refl, ap, sym, ◌∙◌, subst}
 use Rattle.event_log.specs.declared.{entries.{Kind.{Kind, TheVariants.Close}, Entry.Entry}, ids.{BufId.BufId, CpuId.CpuId, LockId.{LockId, TheVariants.Buffer}}}
 use Rattle.event_log.specs.{declared.ids.Tid.Tid, History.IsLawful, Messages.{Message, no_message}, Runs.{Group, Sends, Receives, Closes}}
@@ -45,7 +46,7 @@ enter_self : (u : Tid) (side : Side) → is_enter side u (Inside (Edit (Enter u 
 enter_self u Receivers = same_tid_self u
 enter_self u Senders = same_tid_self u
 
--- the positions that the threads drew last at a buffer, by these sections
+-- the positions that the threads drew last at a buffer in these sections
 abbrev positions : (LockId → Option BufferLock) → BufId → List BufferSection → Group → Tid → ℕ
 positions O b past = by_side (λ side t. drawn O (Buffer b) side t past)
 
@@ -71,7 +72,7 @@ module _ (O : LockId → Option BufferLock) (past : List BufferSection) (cpu : C
       all_along (λ t. after call Receivers t ≡ before Receivers t) x.receive_line (λ t. drawn_is call Receivers t false (none Receivers t))
   agree call none x Closes = tt
 
-  -- a thread that enters a line stood in none
+  -- a thread that enters a line was in none
   agree_but : (call : CvCall BufferEdit) (u : Tid) (x : BufferState) → ((side : Side) → is_in u (line_of side x) ≡ false)
       → ((side : Side) (t : Tid) → same_tid u t ≡ false → is_enter side t call ≡ false) → Agree (by_side before) (by_side (after call)) x
   agree_but call u x out none Sends =
@@ -85,7 +86,7 @@ module _ (O : LockId → Option BufferLock) (past : List BufferSection) (cpu : C
   above_same u None lock = refl
   above_same u (Some o) lock = refl
 
-  -- its effect may come, and the block tells the effects with it
+  -- its effect may occur, and the block accounts for the effects with it
   module _ (caps : List ℕ) (es : List Entry) (lock : BufferLock) (at : buffer_lock_at O past (Buffer d) ≡ Some lock)
       (tally : Tally caps d.0 es (by_side before) lock.above) where
     abbrev StepHere : CvCall BufferEdit → Option Entry → BufferState → Type 0
@@ -153,7 +154,8 @@ module _ (O : LockId → Option BufferLock) (past : List BufferSection) (cpu : C
   apart_same call b other Closes t = refl
 
 module _ (opening : LockId → Option (QueueBlock BufferLock)) (caps : List ℕ) (boots : inner opening ≡ opening_locks caps) where
-  -- the blocks tell these effects of these sections, each of which may come after those before it
+  -- the blocks account for these effects of these sections, each of which may follow those before
+  -- it
   abbrev AreKept : List BufferSection → List Entry → Type 0
   AreKept past es = Kept (lock_edited buffer_rules) (inner opening) caps (λ (lock : BufferLock). lock.above) (positions (inner opening)) past es
 

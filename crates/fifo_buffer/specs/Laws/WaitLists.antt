@@ -1,4 +1,5 @@
--- Only the buffers of the capacities have locks, so who sleeps at a lock sleeps at one of them.
+-- Only the buffers of the capacities have locks; therefore a thread that sleeps at a lock sleeps at
+-- one of them.
 use Rattle.std.proofs.Common.{◌≡◌, ℕ, ◌<◌, List, [], ◌∷◌, length, Option, Some, None, option_map, slice_get, refl, ap, sym, ◌∙◌, arith}
 use Rattle.std.proofs.lemmas.Option.{slice_get_within}
 use Rattle.event_log.specs.{declared.ids.{BufId.BufId, CpuId.CpuId, LockId.{LockId, TheVariants.{Pending, Buffer}}, Tid.Tid}, Sections.{Section, block_after}}

@@ -1,4 +1,5 @@
--- What a part tells of where a thread stands is so, and of each thread some part can tell it.
+-- The place that a part reports for a thread is correct, and for each thread some part can report
+-- it.
 use Rattle.std.specs.Prelude.{◌≡◌, ◌≢◌, ◌⊎◌, ℕ, ◌<◌, Bool, true, false, ◌||◌, ◌&&◌, List, Option, Some, None, length, option_map, option_and_then}
 use Rattle.std.{specs.{Prelude.{if◌then◌else◌, refl}, Option.option_or}, proofs.{lemmas.{Option.{same_Some, slice_get-get_or}, Bool.or_parts}, Common.inl}}
 use Rattle.std.proofs.Common.{inr, ap, subst, sym, ◌∙◌, arith}
@@ -11,7 +12,7 @@ use Rattle.layer_traits.proofs.{CountLemmas.{in_counted, is_cpu_of}, ListsLemmas
 use Rattle.{layer_traits.proofs.PlaceLemmas.{pend_count, pend_home, pend_where}, thread_blocks.specs.Queues.is_in, ipc_calls.specs.Parts.IsSilentOf}
 use Rattle.ipc_calls.specs.{Parts.{asleep_at, wait_list_read, pends_read, said}, PlaceLaws.Watched}
 
--- who is said to stand in a queue that was told stands in one
+-- a thread that is reported in a queue that was read is in one
 said_in : {P : Type 0} (t : Tid) (queue : Option (List Tid)) → said (option_map (is_in t) queue) ≡ true
     → ((q : List Tid) → queue ≡ Some q → is_in t q ≡ true → P) → P
 said_in t None is then_so = absurd (cc is)
@@ -21,16 +22,16 @@ either : {P : Type 0} (a b : Bool) → (a || b) ≡ true → (a ≡ true → P) 
 either true b is left right = left refl
 either false b is left right = right is
 
--- a line that is told first or else second is told by one of them
+-- a value from the first or else the second is from one of them
 or_some : {A : Type 0} (a b : Option A) (x : A) → option_or a b ≡ Some x → (a ≡ Some x) ⊎ (b ≡ Some x)
 or_some None b x is = inr is
 or_some (Some a) b x is = inl is
 
--- the line that a test of the lists gives is one in which the thread stands
+-- the wait list that a test of the lists returns is one that contains the thread
 among_in : (t : Tid) (wait_lists : WaitList → List Tid) (line : WaitList) → wait_list_among t wait_lists ≡ Some line → is_in t (wait_lists line) ≡ true
 among_in t wait_lists line is = grind arith
 
--- and where there is none it stands in no line
+-- and if there is none, the thread is in no wait list
 among_none : (t : Tid) (wait_lists : WaitList → List Tid) → wait_list_among t wait_lists ≡ None → (line : WaitList) → is_in t (wait_lists line) ≡ true → ⊥
 among_none t wait_lists none Sleepers stands = grind arith
 among_none t wait_lists none other stands = grind arith
@@ -39,14 +40,14 @@ asleep_is : (w : Where) (wait_channel : WaitChannel) → wait_channel_of w ≡ S
 asleep_is (Asleep at) wait_channel is = ap Asleep (same_Some at wait_channel is)
 asleep_is other wait_channel is = absurd (cc is)
 
--- who sleeps in a line of a buffer stands there
+-- the place of a thread that sleeps in a wait list of a buffer
 pub sleeps_there : (b : BufId) (line : WaitList) → queue_place (Asleep (At (Buffer b) line)) ≡ Some (asleep_at b line)
 sleeps_there b Sleepers = refl
 sleeps_there b Receivers = refl
 sleeps_there b Senders = refl
 
 module _ {P : Type 0} (Fits : P → Type 0) (cpu_of : P → CpuId) (IsInside : CpuId → Type 0) (homes : List CpuId) (moves : List Step) where
-  -- who is told to stand in a pending queue stands there
+  -- a thread that is reported in a pending queue is in it
   pub read_pends : (t : Tid) (d : CpuId) (p : P) (here : P → Option (List Tid)) (home : Option (List Tid)) → AreMoves homes moves → Fits p
       → IsObservedAs Fits cpu_of IsInside here home (pending_by moves d) → pends_read t home (here p) ≡ true → where_is homes moves t ≡ IsPending d
   read_pends t d p here home lawful fits told is =
@@ -70,7 +71,7 @@ module _ {P : Type 0} (Fits : P → Type 0) (cpu_of : P → CpuId) (IsInside : C
         positive true is = refl
         positive false is = absurd (omega (arith, is))
 
-    -- who is told to stand in a line of a buffer sleeps there
+    -- a thread that is reported in a wait list of a buffer sleeps there
     pub read_sleeps : (t : Tid) (line : WaitList) (p : P) (here : P → Option (WaitList → List Tid)) (home : Option (WaitList → List Tid)) → Fits p
         → IsObservedAs Fits cpu_of IsInside here home (wait_lists b) → wait_list_read t home (here p) ≡ Some line
         → where_is homes moves t ≡ Asleep (At (Buffer b) line)
@@ -85,7 +86,7 @@ module _ {P : Type 0} (Fits : P → Type 0) (cpu_of : P → CpuId) (IsInside : C
         reported_by None same is = absurd (cc is)
         reported_by (Some ls) same is = sleeps t line (among_in t (wait_lists b) line (ap (wait_list_among t) (sym (same ls refl)) ∙ is))
 
--- a queue that was told and in which a thread stands is not said to be without it
+-- a queue that was read and contains a thread is not reported to be without it
 not_silent : (t : Tid) (told : Option (List Tid)) (queue : List Tid) → is_in t queue ≡ true → said (option_map (is_in t) told) ≡ false
     → told ≡ Some queue → ⊥
 not_silent t told queue stands silent is = let says = ap (λ o. said (option_map (is_in t) o)) is in cc (says, stands, silent)
@@ -95,7 +96,7 @@ not_quiet : (t : Tid) (told : Option (WaitList → List Tid)) (wait_lists : Wait
     → option_and_then (wait_list_among t) told ≡ None → told ≡ Some wait_lists → ⊥
 not_quiet t told wait_lists line stands quiet is = among_none t wait_lists (rw is at quiet) line stands
 
--- what is told, and truly, is the truth
+-- if something is reported, and every report is true, the truth is reported
 tells_truth : {A : Type 0} (told : Option A) (truth : A) → told ≢ None → ((x : A) → told ≡ Some x → x ≡ truth) → told ≡ Some truth
 tells_truth None truth some same = absurd (some refl)
 tells_truth (Some x) truth some same = ap Some (same x refl)
@@ -104,11 +105,11 @@ no_wait_list : (a b : Option WaitList) → option_or a b ≡ None → (a ≡ Non
 no_wait_list None b none = (refl, none)
 no_wait_list (Some line) b none = absurd (cc none)
 
--- a thread that there is has a home
+-- a thread that exists has a home CPU
 pub home_there : (homes : List CpuId) (t : Tid) → t.0 < length homes → (home : CpuId) × (home_of homes t ≡ Some home)
 home_there homes t there = (_, slice_get-get_or homes t.0 (record { 0 = 0 }) there)
 
--- of each thread some part can tell where it stands
+-- for each thread some part can report its place
 module _ {P : Type 0} (watched : Watched P) (t : Tid) (home : CpuId) (home_is : home_of watched.homes t ≡ Some home) where
   open watched use {Fits, cpu_of, IsInside, homes, moves, n, wait_lists, own, queue_at, queue_with, wait_lists_at, wait_lists_with}
   open watched use {lawful, agree, stands, queues, waiters_law}
@@ -119,7 +120,7 @@ module _ {P : Type 0} (watched : Watched P) (t : Tid) (home : CpuId) (home_is : 
   abbrev Observed : Where → Type 0
   Observed w = ReadsPlace Fits cpu_of IsInside IsSilent (home_of homes t) w
 
-  -- a thread at home is one of its home's own
+  -- a thread at `Home` is in its home CPU's scheduling state
   at_home : (q : P) → cpu_of q ≡ home → Fits q → where_is homes moves t ≡ Home → IsSilent q → ⊥
   at_home q at fits is silent =
       let places = (stands q fits).places t in
@@ -152,7 +153,7 @@ module _ {P : Type 0} (watched : Watched P) (t : Tid) (home : CpuId) (home_is : 
       let count = agree.once b line t within in
       counted_in t (wait_lists b line) (omega (arith, here, count))
 
-  -- what is at home in the machine every part can tell, and what is in a CPU's hands that CPU's
+  -- what is in the machine every part can report, and what is in a CPU's hands that CPU's part can
   by_told : {A : Type 0} (w : Where) (here : P → Option A) (told : Option A) (truth : A) → IsObservedAs Fits cpu_of IsInside here told truth
       → ((p : P) → IsSilent p → (told ≡ Some truth → ⊥) × (here p ≡ Some truth → ⊥)) → Observed w
   by_told w here (Some x) truth sees quiet =

@@ -1,4 +1,4 @@
--- What a machine of attempts tells of who waits: the waiting lists agree with the places.
+-- The threads that a machine of attempts reports as waiting: the wait lists agree with the places.
 use Rattle.std.{specs.Prelude.{◌≡◌, List, length, Option, refl}, proofs.Common.ap}
 use Rattle.layer_traits.specs.{Blocks.{Capacities.caps_in, QueueBlocks.{homes_in, inner}}, Views.Renaming.viewed, declared.queue_edits.QueueBlock.QueueBlock}
 use Rattle.layer_traits.specs.{declared.queues.QueueEvent.QueueEvent, Layers.{IpcLaw.WaitListsAgree, Queues.{buffer_sections, moves_in}, Sleeping.wait_list_at}}
@@ -6,7 +6,7 @@ use Rattle.{layer_traits.specs.{Layers.{Sleeping.sleep_edited, SleepLaw.sleep_ke
 use Rattle.plain_layers.specs.{Fifos.{PlainLocked, fresh_buffer, fresh_buffers, wait_lists_in}, declared.attempts.Attempt.Attempt, Attempts.attempts}
 use Rattle.{event_log.specs.declared.ids.LockId.{LockId, TheVariants.{Pending, Buffer}}, fifo_buffer.specs.Laws.WaitLists.lists_agree}
 
--- the waiting lists of the buffers agree with the places
+-- the wait lists of the buffers agree with the places
 pub plain_wait_lists : (opening : LockId → Option (QueueBlock PlainLocked)) (past : List (QueueEvent Attempt))
     → inner opening ≡ fresh_buffers (caps_in (viewed plain_shown opening)) → ListsAgree attempts opening past
     → WaitListsAgree (length (caps_in (viewed plain_shown opening))) (homes_in opening) (moves_in (sleep_kernel attempts opening) past)

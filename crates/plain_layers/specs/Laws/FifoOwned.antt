@@ -1,4 +1,5 @@
--- What sleep and wakeup beneath tells of its locks, buffers in one section a call tell of their items and waiting lists.
+-- Buffers with one section a call report their items and wait lists from the locks that sleep and
+-- wakeup below report.
 use Rattle.std.specs.{Prelude.{◌≡◌, ◌<◌, List, [], ◌∷◌, ◌++◌, length, Option, Some, None, IsSome, option_map, option_to_list, refl}, List.AllByRecursion}
 use Rattle.std.proofs.{Common.{ap, sym, ◌∙◌, subst}, lemmas.Option.{same_Some, slice_get-get_or}}
 use Rattle.layer_traits.specs.{Blocks.{Capacities.caps_in, BufferEffects.contents_of, QueueBlocks.{above_of, inner}}, Views.Renaming.viewed}
@@ -11,7 +12,7 @@ use Rattle.{plain_layers.specs.{FifoOwned.plain_wait_lists_of, Laws.FifoTallies.
 use Rattle.event_log.specs.{declared.ids.{CpuId.CpuId, LockId.{LockId, TheVariants.Buffer}, Tid.Tid, TheConstants.CPUS}, Buffers.items_of, History.IsLawful}
 use Rattle.event_log.specs.{Runs.is_closed, Sections.Section}
 
--- a block that is seen is there
+-- a block whose view is there is there
 pub there_viewed : {A B : Type 0} (view : A → B) (o : Option A) → IsSome (option_map view o) → IsSome o
 there_viewed view None some = absurd cc
 there_viewed view (Some x) some = refl
@@ -48,7 +49,7 @@ module _ (opening : LockId → Option (QueueBlock PlainLocked)) (fresh : inner o
       ap (option_map plain_items_in) state.1
       ∙ ap Some (sym (plain_tally (inner opening) (caps_in (viewed plain_shown opening)) past fresh b state.0 state.1).items)
 
-  -- it is closed where an effect has closed it
+  -- it is closed if an effect has closed it
   pub closed_read : (past : List (Section Attempt)) → option_map plain_closed_of (locked_after (inner opening) (Buffer b) past)
       ≡ Some (is_closed (plain_entries_in (inner opening) past) b.0)
   closed_read past =
@@ -62,7 +63,7 @@ module _ (opening : LockId → Option (QueueBlock PlainLocked)) (fresh : inner o
       let state = found past in
       ap (option_map plain_wait_lists_of) state.1 ∙ ap (λ o. Some (λ (line : WaitList). wait_list_at line o)) (sym state.1)
 
--- nobody owns a lock of buffers in one section a call, and the machine tells it
+-- no thread owns a lock of buffers with one section a call, and the machine reports so
 pub nobody_owns : {P : Type 0} (Fits : P → Type 0) (cpu_of : P → CpuId) (IsInside : CpuId → Type 0)
     → IsObservedAs Fits cpu_of IsInside (λ p. nothing_read) (Some nobody) nobody
 nobody_owns Fits cpu_of IsInside = record {

@@ -1,5 +1,6 @@
--- A buffer in one section a call tells its effects after any sections; so each effect may come after those before it. A section that the
--- buffer allows enters its caller in a line and lets it go at once.
+-- A buffer with one section a call accounts for its effects after any sections; therefore each
+-- effect may follow those before it. A section that the buffer allows puts its caller into a line
+-- and takes it out at once.
 use Rattle.std.proofs.Common.{◌≡◌, ℕ, Bool, true, false, ◌&&◌, List, [], ◌∷◌, ◌++◌, Option, Some, None, option_map, option_to_list, if◌then◌else◌, refl, ap}
 use Rattle.std.proofs.{Common.sym, lemmas.Option.same_Some}
 use Rattle.event_log.specs.declared.{entries.Entry.Entry, ids.{BufId.BufId, CpuId.CpuId, LockId.{LockId, TheVariants.{Pending, Buffer}}, Tid.Tid}}
@@ -12,14 +13,14 @@ use Rattle.plain_layers.specs.declared.attempts.{Ask.{Ask, TheVariants.{Send, Re
 use Rattle.plain_layers.specs.Attempts.{PlainState, allows, attempt_side, attempts, done, attempt_effect, effect_in, with_waiter, attempt_wakes}
 use Rattle.plain_layers.specs.Fifos.{PlainLocked, plain_entries_in, entry_at, fresh_buffer, fresh_buffers, locked_after, plain_shown}
 
--- the block that the layer's trait shows of a buffer: nobody stands in its lines, so no position matters
+-- the block that the layer's trait shows of a buffer: its lines are empty, so no position matters
 abbrev pub plain_block : PlainState → BufferState
 plain_block x = (plain_shown (record { sleepers = []; receivers = []; senders = []; above = x })).above
 
 abbrev pub no_position : Group → Tid → ℕ
 no_position g t = 0
 
--- what an attempt answers that the buffer allows, or does not, and what it leaves
+-- the result of an attempt that the buffer allows, or does not, and what it leaves
 abbrev pub reported_if : Bool → Attempt → PlainState → Tried
 reported_if v a x = if v then Acted (attempt_effect a.ask x) (attempt_wakes a.ask x) else Refused (attempt_side a.ask)
 
@@ -32,7 +33,7 @@ agree p q x Receives = tt
 agree p q x Closes = tt
 
 module _ (caps : List ℕ) (es : List Entry) (c : CpuId) (d : BufId) (t : Tid) (x : PlainState) (tally : Tally caps d.0 es no_position (plain_block x)) where
-  -- the caller draws the next position of its side, and stands in its line alone
+  -- the caller draws the next position of its side, and is the only thread in its line
   abbrev next : Side → Tid → ℕ
   next side u = drawn_of side (plain_block x)
 
@@ -65,7 +66,8 @@ placed_at c a d None e is = absurd cc
 placed_at c a d (Some state) e is = placed c a.thread d (effect_in (reported_if (allows a.ask state.above) a state.above)) e is
 
 module _ (locks : LockId → Option PlainLocked) (caps : List ℕ) (fresh : locks ≡ fresh_buffers caps) where
-  -- after these sections the buffers tell these effects, each of which may come after those before it
+  -- after these sections the buffers account for these effects, each of which may follow those
+  -- before it
   abbrev AttemptsAreKept : List (Section Attempt) → List Entry → Type 0
   AttemptsAreKept past es = Kept (sleep_edited attempts) locks caps (λ (state : PlainLocked). plain_block state.above) (λ b past. no_position) past es
 
@@ -85,12 +87,12 @@ module _ (locks : LockId → Option PlainLocked) (caps : List ℕ) (fresh : lock
           (λ state at tally. here_step caps (plain_entries_in locks past) s.cpu d s.edit.thread state.above tally s.edit.ask
           (allows s.edit.ask state.above) refl)
 
--- each effect may come after those before it
+-- each effect may follow those before it
 pub plain_lawful : (locks : LockId → Option PlainLocked) (caps : List ℕ) (past : List (Section Attempt)) → locks ≡ fresh_buffers caps
     → IsLawful (MayTakeEffect caps) (plain_entries_in locks past)
 plain_lawful locks caps past fresh = (all_kept locks caps fresh past).1
 
--- and a buffer tells them
+-- and a buffer accounts for them
 pub plain_tally : (locks : LockId → Option PlainLocked) (caps : List ℕ) (past : List (Section Attempt)) → locks ≡ fresh_buffers caps
     → (b : BufId) (state : PlainLocked) → locked_after locks (Buffer b) past ≡ Some state
     → Tally caps b.0 (plain_entries_in locks past) no_position (plain_block state.above)

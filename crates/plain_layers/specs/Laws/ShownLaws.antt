@@ -1,4 +1,5 @@
--- What a machine of lists tells: all is at home, and no part ever has anything in its hands.
+-- What a machine of lists reports: everything is in its place (home), and no part ever has anything
+-- in its hands.
 use Rattle.std.{specs.Prelude.{◌≡◌, List, Option, Some, None, IsSome, option_map, slice_get}, proofs.Common.{refl, sym, ◌∙◌, subst}}
 use Rattle.event_log.specs.{declared.ids.{BufId.BufId, CpuId.CpuId, LockId.{LockId, TheVariants.{Pending, Buffer}}, Tid.Tid}, Sections.{Section, block_after}}
 use Rattle.layer_traits.specs.declared.{queue_edits.QueueBlock.{QueueBlock, TheVariants.{Queue, Above}}, queues.QueueEvent.QueueEvent}
@@ -6,7 +7,7 @@ use Rattle.layer_traits.specs.{Threads.{MoveRules.MoveRules, Places.pending_by},
 use Rattle.layer_traits.{specs.{Blocks.QueueBlocks.{above_of, inner}, Layers.Queues.{buffer_sections, kernel, moves_in}}, proofs.Alone.block_there}
 use Rattle.plain_layers.specs.{declared.kernel.{Lists.Lists, Opening.Opening}, Kernels.{IsKernel, opening_of}, Tables.IsTable}
 
--- what is there and at home is shown
+-- what is there and in its place is shown
 shown_at_home : {P A : Type 0} (Fits : P → Type 0) (cpu_of : P → CpuId) (IsInside : CpuId → Type 0) (home truth : Option A) → home ≡ truth → IsSome truth
     → IsObserved Fits cpu_of IsInside (λ p. None) home truth
 shown_at_home {P} {A} Fits cpu_of IsInside home truth is there = record {
@@ -18,7 +19,7 @@ shown_at_home {P} {A} Fits cpu_of IsInside home truth is there = record {
     nothing : IsSome {T = A} None → ⊥
     nothing some = cc
 
--- each block is at home in the list of blocks
+-- each block is in its place in the list of blocks
 pub table_shown : {P E B O : Type 0} (rules : Rules E B O) (opening : LockId → Option B) (past : List (Section E)) (list : List (LockId × B))
     (Fits : P → Type 0) (cpu_of : P → CpuId) (IsInside : CpuId → Type 0) (lock : LockId) → IsTable rules opening past list → IsSome (opening lock)
     → IsObserved Fits cpu_of IsInside (λ p. None) (opened list lock) (block_after rules.edited opening lock past)
@@ -28,7 +29,7 @@ table_shown rules opening past list Fits cpu_of IsInside lock table there =
 
 module _ {E B O : Type 0} (rules : Rules E B O) (mv : MoveRules E O) (start : Opening B) (past : List (QueueEvent E)) (lists : Lists B)
     (sound : IsKernel rules mv start past lists) where
-  -- each buffer's block is at home, whatever the parts are
+  -- each buffer's block is in its place, whatever the parts are
   pub block_shown : {P : Type 0} (Fits : P → Type 0) (cpu_of : P → CpuId) (IsInside : CpuId → Type 0) (b : BufId) → IsSome (opening_of start (Buffer b))
       → IsObserved Fits cpu_of IsInside (λ p. None) (slice_get lists.buffers.items b.0)
       (block_after rules.edited (inner (opening_of start)) (Buffer b) (buffer_sections past))

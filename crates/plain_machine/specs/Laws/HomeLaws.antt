@@ -1,4 +1,5 @@
--- What the table has at home is what the sections leave, and what it has not some CPU has in its hands.
+-- The blocks in the table are what the sections leave, and a block that is not there is in some
+-- CPU's hands.
 use Rattle.std.specs.Prelude.{◌≡◌, ℕ, List, Option, Some, None, MatchOption}
 use Rattle.{event_log.specs.{declared.{events.Event.Event, ids.LockId.LockId}, Sections.block_after}, layer_traits.specs.declared.edits.Mark.Mark}
 use Rattle.{layer_traits.specs.Protocols.{OneLock.{NobodyInside, SomeoneInside}, WordsProtocol.sections}, plain_machine.specs.declared.cells.Cell.Cell}

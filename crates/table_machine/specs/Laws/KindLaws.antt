@@ -1,4 +1,4 @@
--- Both kinds of words do what the counts say.
+-- Both kinds of words agree with the counts.
 use Rattle.std.proofs.Common.{◌≡◌, ◌≢◌, ℕ, ◌+◌, ◌%◌, ◌^◌, ◌<◌, ◌≤◌, ◌==◌, if◌then◌else◌, refl, ◌∙◌, arith}
 use Rattle.event_log.{specs.{declared.ids.TheConstants.CPUS, Grants.after_give}, proofs.GrantWords.{fits_at_start, fits_after, served_exactly}}
 use Rattle.{event_log.proofs.Tickets.{same_rests, next_rests}, table_machine.specs.Kinds.{IsWordKind, first_words, grant_words, ticket_words}}

@@ -1,8 +1,9 @@
--- An example, for tests alone: the words of a ticket lock that is given on by a store do what two true counts say.
+-- An example, only for tests: the words of a ticket lock that is released by a store agree with two
+-- exact counts.
 use Rattle.std.proofs.Common.{◌≢◌, ℕ, ◌≤◌, ◌∙◌, arith}
 use Rattle.{event_log.proofs.Tickets.{same_rests, next_rests}, table_machine.specs.{Kinds.IsWordKind, Stored.stored_words}}
 
--- the words do what the counts say
+-- the words agree with the counts
 pub stored_are : IsWordKind stored_words
 stored_are = record {
   looks_within = λ ticket. omega arith;

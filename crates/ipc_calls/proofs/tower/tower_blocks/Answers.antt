@@ -1,7 +1,7 @@
 use Rattle.{std.proofs.lemmas.Result.IfOk-weaker, layer_traits.specs.Protocols.OneLock.opened, ipc_calls.proofs.{Opened.both_ok, Towers.tower_locks}}
 use Rattle.ipc_calls.proofs.tower.tower_blocks.Goals as goal
 
--- the blocks are those of empty buffers, each under a free lock with nobody asleep
+-- the blocks are those of empty buffers, each under a free lock without sleepers
 pub returns-clause-locks : goal.returns-clause-locks
 returns-clause-locks c =
     let r = c.queue_blocks.result in

@@ -10,14 +10,15 @@ goes ask x closed = grind arith
 pub returns-clause-goes : goal.returns-clause-goes
 returns-clause-goes c = goes
 
--- nobody is woken of a side only where nobody waits there
+-- no thread of a side is woken only if none waits there
 nobody_first : (side : Side) (queue : List Tid) → leaving_side side (first queue) ≡ Nobody → queue ≡ []
 nobody_first side queue given = grind arith
 
 nobody_there : (queue : List Tid) → is_some (first queue) ≡ false → queue ≡ []
 nobody_there queue given = grind arith
 
--- of a closed buffer's two sides the own one is woken while somebody waits there, and else the other
+-- of a closed buffer's two sides, the own one is woken as long as a thread waits there, and
+-- otherwise the other
 last_gone : (own : Side) (x : PlainState) (v : Bool) → is_some (first (waiting_on own x)) ≡ v
     → leaving_side (if v then own else far_side own) (first (waiting_on (if v then own else far_side own) x)) ≡ Nobody → (x.receivers ≡ []) × (x.senders ≡ [])
 last_gone own x v is given = grind (arith, nobody_first, nobody_there)

@@ -43,7 +43,7 @@ returns-then-ends_wait-clause-seen g c =
     over_polled G.monitor_rules k cpu c.args.call.buffer own (Q.under_way p) (λ d. Q.ActsFor m d) call (Q.seen m) c.ends_wait.new.self.buffers _
     c.side_of.result (slept_for waits t) some c.requires.call.may awake c.side_of.ensures now
 
--- the thread does not wait: what the poll beneath leaves
+-- the thread does not wait: what the poll below leaves
 module _ (g : Over) (c : After-complete g) where
   open g.G.Guarded use {monitor_rules, meant, told}
 

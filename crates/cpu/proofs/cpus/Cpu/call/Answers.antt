@@ -28,7 +28,7 @@ pub note_poll-fresh-requires : goal.note_poll-fresh-requires
 note_poll-fresh-requires g c =
     rw c.call_of-call.follows.holds-at-none (poll_within (valid_cpu c.requires.goes.agrees.is) c.args.thread c.args.asked c.requires.chosen)
 
--- what the run answered and noted
+-- what the run returned and recorded
 module _ (g : Over) (c : After-note_poll-fresh g) where
   open g.I.CallLayer use {own}
 

@@ -31,7 +31,7 @@ looks-requires g c =
     let left = runs_room (ran_polling g (goal.at.looks-requires g c).After-pass) in
     record { fits = c.pass.ensures.agrees.fits; some = grind (arith, few, c.if-taken-most.false); room = omega (arith, wide, left) }
 
--- and the looks behind it
+-- and the polls of a lock after it
 ran_looking : (g : Over) (c : After-looks g)
     → RunsAt g.I.CallLayer c.args.m.now c.args.self.now c.looks.new.taken c.looks.new.m (record c.pass.new.self { part = c.looks.new.self })
 ran_looking g c =

@@ -3,7 +3,7 @@ use Rattle.{layer_traits.specs.{Views.OwnParts.threads_in, declared.passes.Pass.
 use Rattle.cpu.specs.{Cpus.chosen, CpuSteps.{RunsAt, stops_at}}
 use Rattle.cpu.proofs.cpus.Cpu.drains.Given as goal
 
--- fewer steps were taken than may be, and the CPU is to drain
+-- fewer steps were taken than may be, and the CPU continues to drain
 abbrev pub invariant-loop-taken : goal.invariant-loop-taken
 invariant-loop-taken g l = record {
   few : l.taken < l.most;

@@ -55,7 +55,7 @@ tabled g c step guests is =
       guests_are = is;
     }
 
--- the pass came to its end
+-- the pass ended
 pub returns-then-is_some : goal.returns-then-is_some
 returns-then-is_some g c =
     let I = g.I.CallLayer in

@@ -15,7 +15,7 @@ looks-requires g c =
     let left = runs_room so.ran in
     record { fits = (runs_agree c.requires.agrees so.ran).fits; some = so.few; room = omega (arith, wide, left) }
 
--- the steps with the looks behind them, after which the CPU is not halted
+-- the steps with the polls of a lock after them, after which the CPU is not halted
 ran_looking : (g : Over) (c : After-looks g)
     → RunsAt g.I.CallLayer c.args.m.now c.args.self.now c.looks.new.taken c.looks.new.m (record c.loop-most.self { part = c.looks.new.self })
 ran_looking g c =

@@ -2,7 +2,7 @@ use Rattle.std.proofs.Common.{refl, ap, sym, arith}
 use Rattle.cpu.{specs.Cpus.step_answer, proofs.{CpuSteps.CallRuns.look_steps, OverLayer.CpuOverLayer.{laws_of, layered}}}
 use Rattle.cpu.proofs.cpus.Cpu.step.Goals as goal
 
--- the look that it did was a step
+-- the poll of a lock that it did was a step
 pub returns-then-look : goal.returns-then-look
 returns-then-look g c =
     let laws = laws_of g.met.I.CallLayer in

@@ -2,7 +2,7 @@ use Rattle.std.proofs.{Common.{◌≡◌, ◌<◌, None, Some, length, rules, sy
 use Rattle.cpu.proofs.ListFacts.GuestLists.{count_with, live_with}
 use Rattle.cpu.proofs.guest_tables.Guests.note_poll.Goals as goal
 
--- the call is polled again: its guest still stands at it
+-- the call is polled again: its guest is still at it
 pub invariant_of-self-else-is_some : goal.invariant_of-self-else-is_some
 invariant_of-self-else-is_some c =
     let table = c.self.inside.table.items in

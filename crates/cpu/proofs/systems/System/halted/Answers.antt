@@ -5,7 +5,7 @@ use Rattle.cpu.proofs.OverLayer.{CpuOverLayer.{laws_of, layered, IsLayered, runs
 use Rattle.{cpu.proofs.systems.System.halted.{Given.Over, Goals.After-index-at}, layer_traits.specs.Threads.OnePlace.cpu_at}
 use Rattle.cpu.proofs.systems.System.halted.Goals as goal
 
--- the CPU that is asked is the one at its number
+-- the CPU that is read is the one at its number
 module _ (g : Over) (c : After-index-at g) where
   at : slice_get c.self.inside.cpus.items c.from.result ≡ Some c.index-at.result.now
   at = grind (arith, read_at)

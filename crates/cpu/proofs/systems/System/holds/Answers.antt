@@ -15,7 +15,7 @@ returns-clause-sound g c = λ step. subst (λ (s : Shown). SoundByTable s) c.sel
 laws : (g : Over) → MachineLaws g.I.CallLayer
 laws g = grind arith
 
--- each CPU has what always holds of it
+-- each CPU has its invariant
 each : (g : Over) (c : After-self g) → let I = g.I.CallLayer in let m = c.self.inside.machine in
     (k : ℕ) (p : CpuShown) → slice_get (map (shown_by I) c.self.inside.cpus.items) k ≡ Some p
     → Has (homes_in (I.opening m)) (length (caps_in (I.opening m))) (I.seen m) (I.moves m) k p

@@ -60,7 +60,7 @@ spin-looks-requires-clause-room g c =
     let left = runs_room c.run-taken.ensures.ran in
     grind (arith, enough, left)
 
--- the steps that it took, and the looks behind them
+-- the steps that it took, and the polls of a lock after them
 module _ (g : Over) (c : After-spin-looks g) where
   there : slice_get c.self.inside.cpus.items c.from.result ≡ Some c.index_mut-at.result.now
   there = at g (goal.at-After-spin-looks g c).After-index_mut-at

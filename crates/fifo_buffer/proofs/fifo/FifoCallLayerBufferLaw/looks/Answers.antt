@@ -5,11 +5,11 @@ use Rattle.fifo_buffer.proofs.fifo.FifoCallLayerBufferLaw.looks.Goals as goal
 pub returns-then-taken-most-clause-looked_on : goal.returns-then-taken-most-clause-looked_on
 returns-then-taken-most-clause-looked_on g c = LookedOn.more LookedOn.none c.if-look.ensures
 
--- of two looks in a row the first has missed
+-- of two consecutive polls of a lock the first has failed
 pub returns-then-look-2-clause-looked_on : goal.returns-then-look-2-clause-looked_on
 returns-then-look-2-clause-looked_on g c = LookedOn.more (LookedOn.more LookedOn.none c.if-look.ensures) c.if-look-2.ensures
 
--- a look that was none changes nothing
+-- a poll of a lock that did nothing changes nothing
 pub returns-else-look-2-clause-looked_on : goal.returns-else-look-2-clause-looked_on
 returns-else-look-2-clause-looked_on g c =
     let still = c.if-look-2.ensures.still refl in

@@ -56,7 +56,7 @@ module _ (g : Over) (t : Tid) (call : Call) (p p1 : Fifo g.row.C.Denot) (m m1 : 
     (report : SectionPoll) where
   open g.C.ThreadLayer use {ActsFor, Fits, IsStepwise, MayHold, acts, cpu_of, opening, own, room, seen, site, under_way}
 
-  -- the call states before it and after it, and the one with which the call went on
+  -- the call states before and after it, and the one with which the call continued
   abbrev before : List CallState
   before = p.call_states.call_states
 
@@ -89,7 +89,8 @@ module _ (g : Over) (c : Joined-stage g) where
   in_call : called_at (going (call_state_of states c.args.t) c.args.call.now).stage ≡ true
   in_call = grind (arith, goes_called)
 
-  -- what a section did at the machine with which it began it did at the one with which the poll began
+  -- what a section did at the machine with which it began it did at the one with which the poll
+  -- began
   did_at : {l : Fifo g.row.C.Denot} {n : g.row.C-Machine.Denot} {r : SectionPoll} {at : Stage} → c.match-stage.self ≡ l → c.match-stage.m ≡ n
       → c.match-stage.polled ≡ r → at ≡ c.next_stage-stage.result
       → Did g c.args.t c.args.call.now c.sections.self l c.sections.m n (g.C.ThreadLayer.cpu_of c.sections.self.lower) at r
@@ -186,7 +187,7 @@ module _ (g : Over) (c : After-complete g) where
   abbrev joined : Joined-stage g
   joined = (goal.at.returns-in-sections g c).Joined-stage
 
-  -- the call state with which it went on
+  -- the call state with which it continued
   abbrev went : CallState
   went = going (call_state_of c.sections.self.call_states.call_states c.args.t) c.args.call.now
 

@@ -6,7 +6,8 @@ use Rattle.layer_traits.specs.{declared.{buffer_edits.BufferEdit.BufferEdit, cal
 use Rattle.{layer_traits.specs.Polling.Plans.table_of, fifo_buffer.proofs.CallPolls.IsGoing}
 use Rattle.fifo_buffer.proofs.fifo.FifoCallLayerBufferLaw.poll_kind.Given as goal
 
--- a section after which the poll goes on does nothing to the machine, and what the next section follows of its own plan is the poll's plan
+-- a section after which the poll continues does nothing to the machine, and what the next section
+-- follows of its plan is the poll's plan
 abbrev pub invariant-sections : goal.invariant-sections
 invariant-sections g l = record {
   still : l.m ≡ l.initial.m;

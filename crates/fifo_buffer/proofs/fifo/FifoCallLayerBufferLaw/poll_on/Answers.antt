@@ -66,7 +66,7 @@ some_of o is = grind arith
 same_bool : (a b : Bool) → not (beq a b) ≡ false → a ≡ b
 same_bool a b is = grind arith
 
--- a poll after which the loop goes on
+-- a poll after which the loop continues
 module _ (g : Over) (c : Else-is_some-had g) (polled : PolledAt (tells g) plan c.args.t c.args.call.now c.loop-actions.self c.loop-actions.m
     c.poll_kind-reply.new.self c.poll_kind-reply.new.m c.poll_kind-reply.result) where
   polled_on : PolledAt (tells g) plan c.args.t c.args.call.now c.loop-actions.self c.loop-actions.m c.poll_kind-reply.new.self c.poll_kind-reply.new.m None
@@ -81,7 +81,7 @@ module _ (g : Over) (c : Else-is_some-had g) (polled : PolledAt (tells g) plan c
       (λ none. some_of c.current.result c.if-is_none.ensures (c.current.ensures ∙ none)) (ap is_some (sym c.effect_here.ensures) ∙ sym
       c.is_some-in-loop-actions.ensures ∙ same_bool c.is_some-in-loop-actions.result c.has_taken-had.result c.if-is_some-had.false ∙ c.has_taken-had.ensures)
 
--- and with the looks behind it
+-- and with the polls of a lock after it
 ran_looking : (g : Over) (c : After-looks g) → PolledOnAt (tells g) plan c.args.t c.args.call.now c.args.self.now c.args.m.now c.looks.new.taken
     c.looks.new.self c.looks.new.m None
 ran_looking g c =

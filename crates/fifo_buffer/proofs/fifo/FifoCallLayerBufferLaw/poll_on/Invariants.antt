@@ -7,7 +7,7 @@ use Rattle.fifo_buffer.specs.{declared.fifo.Fifo.Fifo, FifoFits.{BootsSo, PartFi
 use Rattle.fifo_buffer.proofs.fifo.FifoCallLayerBufferLaw.poll_on.Given.{Over}
 use Rattle.fifo_buffer.proofs.fifo.FifoCallLayerBufferLaw.poll_on.Given as goal
 
--- what a part of buffers tells as a layer of calls
+-- what a part of buffers reports as a layer of calls
 abbrev pub tells : (g : Over) → Ghosts (Fifo g.row.C.Denot) (Unit {0}) g.row.C-Machine.Denot
 tells g = let C = g.C.ThreadLayer in record {
   seen = λ m. effects_in (inner (C.opening m)) (buffer_sections (C.seen m));

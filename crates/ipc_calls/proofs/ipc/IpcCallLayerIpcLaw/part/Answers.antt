@@ -1,7 +1,7 @@
 use Rattle.std.proofs.Common.{◌∙◌, sym}
 use Rattle.ipc_calls.proofs.ipc.IpcCallLayerIpcLaw.part.Goals as goal
 
--- the part beneath fits a machine in which nothing was done, and the plan is that machine's
+-- the part below agrees with a machine in which nothing was done, and the plan is that machine's
 pub returns-clause-fits : goal.returns-clause-fits
 returns-clause-fits g c m fresh count = (
   c.part.ensures.fits m fresh.0 tt,

@@ -2,7 +2,7 @@ use Rattle.std.proofs.Common.{◌<◌, sym}
 use Rattle.ipc_calls.proofs.CallRuns.{polled_over, bad_number_refused}
 use Rattle.ipc_calls.proofs.ipc.IpcCallLayerIpcLaw.poll_kind.Goals as goal
 
--- a number that is no buffer's is refused
+-- a number that is no buffer's is rejected
 pub returns-then-buffer-self : goal.returns-then-buffer-self
 returns-then-buffer-self g c =
     bad_number_refused g.B.CallLayer c.args.self.now c.args.t c.args.call.now c.args.self.now c.args.m.now

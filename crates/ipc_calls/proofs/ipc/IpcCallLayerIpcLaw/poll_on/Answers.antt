@@ -2,7 +2,7 @@ use Rattle.std.proofs.Common.{◌<◌, sym}
 use Rattle.{layer_traits.specs.Polling.PollRuns.once, ipc_calls.proofs.CallRuns.{ran_over, bad_number_refused}}
 use Rattle.ipc_calls.proofs.ipc.IpcCallLayerIpcLaw.poll_on.Goals as goal
 
--- a number that is no buffer's is refused
+-- a number that is no buffer's is rejected
 pub returns-then-buffer-self-clause-polled_on : goal.returns-then-buffer-self-clause-polled_on
 returns-then-buffer-self-clause-polled_on g c =
     once (bad_number_refused g.B.CallLayer c.args.self.now c.args.t c.args.call.now c.args.self.now c.args.m.now

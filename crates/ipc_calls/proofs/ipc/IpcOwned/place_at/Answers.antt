@@ -13,7 +13,7 @@ pends-requires-clause-queue g c =
     (law.starts m (g.B.CallLayer.cpu_of c.args.self.now.lower) acts).queues c.args.t c.home-home.result
     (subst (λ homes. home_of homes c.args.t ≡ Some c.home-home.result) c.requires.fits.1.homes_are c.home-home.ensures)
 
--- who is told to stand in the pending queue of its home stands there
+-- a thread that is reported in the pending queue of its home CPU is in it
 pub returns-then-pends-clause-observed : goal.returns-then-pends-clause-observed
 returns-then-pends-clause-observed g c x is =
     let B = g.B.CallLayer in
@@ -47,7 +47,7 @@ returns-in_err-buffer-clause-silent g c none =
       wait_lists = c.in_err-buffer.ensures.none refl;
     }
 
--- who is told to stand in a line of a buffer sleeps there
+-- a thread that is reported in a wait list of a buffer sleeps there
 pub returns-clause-observed : goal.returns-clause-observed
 returns-clause-observed g c x is =
     let B = g.B.CallLayer in

@@ -4,8 +4,8 @@ use Rattle.{layer_traits.{specs.Views.Renaming.viewed, proofs.KernelRenaming.{ho
 use Rattle.ipc_calls.proofs.Opened.{both_ok}
 use Rattle.ipc_calls.proofs.tower.FifoCondQLockOpensBuffers.open.Goals as goal
 
--- the machine has the capacities and homes of the plan, nothing was done in it, its locks are those of the capacities that it tells,
--- each CPU finds in it what its part needs, and may act on it
+-- the machine has the capacities and homes of the plan, nothing was done in it, its locks are those
+-- of the capacities that it reports, each CPU finds in it what its part needs, and may act on it
 pub returns : goal.returns
 returns g c =
     let S = g.S.ThreadLayer in

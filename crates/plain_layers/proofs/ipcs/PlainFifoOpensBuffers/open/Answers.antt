@@ -3,8 +3,8 @@ use Rattle.plain_layers.{proofs.{OpeningLemmas.where_ok, PlainOpenings.{boots_sh
 use Rattle.{plain_layers.specs.Fifos.plain_shown, layer_traits.{specs.Blocks.QueueBlocks.inner, proofs.KernelRenaming.homes_viewed}}
 use Rattle.plain_layers.proofs.ipcs.PlainFifoOpensBuffers.open.Goals as goal
 
--- the machine has the capacities and homes of the plan, nothing was done in it, its locks are those of the capacities that it tells,
--- each CPU finds in it what its part needs, and may act on it
+-- the machine has the capacities and homes of the plan, nothing was done in it, its locks are those
+-- of the capacities that it reports, each CPU finds in it what its part needs, and may act on it
 pub returns : goal.returns
 returns g c =
     let S = g.S.ThreadLayer in

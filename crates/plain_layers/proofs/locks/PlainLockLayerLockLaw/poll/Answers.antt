@@ -5,11 +5,11 @@ use Rattle.plain_layers.proofs.locks.PlainLockLayerLockLaw.poll.Goals as goal
 pub done-requires-clause-allowed : goal.done-requires-clause-allowed
 done-requires-clause-allowed g c = c.requires.call [] tt c.requires.fits.1.lawful
 
--- nothing came before it
+-- nothing was added before it
 pub returns-clause-seen : goal.returns-clause-seen
 returns-clause-seen g c = record { others = []; foreign = λ d acts. tt; is = c.done.ensures.seen; answers = c.done.ensures.answer }
 
--- and the machine is the same but for it
+-- and the machine is otherwise the same
 pub returns-clause-framed : goal.returns-clause-framed
 returns-clause-framed g c =
     let said = c.done.ensures in

@@ -6,7 +6,7 @@ use Rattle.sleep_wakeup.{specs.{Laws.NestedLaws.nothing_seen, Nested.{slept_edit
 use Rattle.plain_layers.specs.{Kernels.{calls_in, opening_of}, QLocks.{calls_of, locks_of}}
 use Rattle.plain_layers.proofs.qlocks.PlainQLockThreadLayerQLockLaw.part.Goals as goal
 
--- nobody has slept, and nothing is kept
+-- no thread has slept, and nothing is kept
 pub returns-clause-fits : goal.returns-clause-fits
 returns-clause-fits g c = λ m acts outside boots.
     let opening = opening_of m.opening in

@@ -115,7 +115,7 @@ module _ (g : Over) (c : After-hand_on g) where
       (MaySleep (beneath_the_lock rules (viewed state_of opening)) was.c was.past was.own.threads was.b (as_section was.e)) c.requires.fits.3.0
       (beneath_owed was (awake g at)) (λ may. may.hand)
 
-  -- what the scheduler's answer leaves; its poll is one of the section
+  -- what the scheduler's result leaves; its poll is one of the section
   abbrev got : Left (Sleeping (QOut g.row.F-Out.Denot)) (Outcome (QOut g.row.F-Out.Denot))
   got = record {
     own = own_of (told_kept told c.poll.new.self.own was.b was.e c.unwrap-answer.result c.poll.new.payload.parcel) c.poll.new.self.own;
@@ -135,7 +135,7 @@ module _ (g : Over) (c : After-hand_on g) where
       ≡ (if is_some got.answer then None else Some (OnBuffer was.b was.e))
   ends = grind (arith, under_is, done_keeps, defers)
 
-  -- what is kept, noted and answered is what the law says
+  -- what is kept, recorded and returned is what the law says
   kept_is : c.take_up-outcome.new.kept ≡ kept_after c.poll.new.self.own.hand was.b (as_edit (as_section was.e)) c.unwrap-answer.result c.poll.new.payload.parcel
   kept_is = grind arith
 
@@ -150,7 +150,7 @@ module _ (g : Over) (c : After-hand_on g) where
   lawful = nested_lawful (busy_rules rules) opening (calls_in c.poll.new.m) (subst (λ o. IsLawful (QueueAllowed (beneath (busy_rules rules) o))
       (calls_in c.poll.new.m)) c.poll.ensures.framed.stays.opening c.poll.ensures.framed.fits.1.lawful)
 
-  -- who slept for a lock owns it or sleeps still, and so does who is queued now
+  -- a thread that slept for a lock owns it or still sleeps, and a queued caller sleeps
   slept_by : (r : Option (Outcome (QOut g.row.F-Brought.Denot)))
       → got.answer ≡ option_map (tell told (parcel_after c.args.self.now.kept c.unwrap-answer.result c.poll.new.payload.parcel)) r
       → SleptFits rules (locks_of opening) was.c (calls_of (calls_in c.poll.new.m)) (noted_after (lock_caller rules was.e) was.b was.slept r)

@@ -5,6 +5,6 @@ use Rattle.plain_layers.proofs.queues.PlainQueuesLayerQueueLaw.poll.Goals as goa
 pub done-requires-clause-call : goal.done-requires-clause-call
 done-requires-clause-call g c = c.requires.call [] tt c.requires.fits.1.lawful
 
--- nothing came before it
+-- nothing was added before it
 pub returns-clause-seen : goal.returns-clause-seen
 returns-clause-seen g c = record { others = []; foreign = λ d acts. tt; is = c.done.ensures.seen; answers = c.done.ensures.answer }

@@ -14,7 +14,7 @@ use Rattle.plain_layers.proofs.scheds.PlainSchedLayerSchedLaw.poll.Goals as goal
 abbrev call_of : (g : Over) (c : Start g) → SchedCall g.row.E.Denot
 call_of g c = sched_meant g.E.SplitEdit.meant c.args.call c.args.payload.now
 
--- who acts on the machine
+-- the CPUs that act on the machine
 abbrev Acts : (g : Over) (c : Start g) → CpuId → Type 0
 Acts g c d = (d.0 < CPUS) × IsKernel g.E.SplitEdit.rules g.E.Moves.moves c.args.m.now.opening (calls_in c.args.m.now) c.args.m.now.lists
 
