@@ -164,8 +164,9 @@ impl<I: CallLayer<IpcLaw>> Cpu<I> {
         self.pass(m, pass);
     }
 
-    /// Returns whether the CPU continues to drain: it is not halted, it has no running or ready
-    /// thread, and its hand (the slot for a thread in transit to another CPU) is empty.
+    /// Returns whether the CPU continues to drain. It does if it is not halted, has no running or
+    /// ready thread, and its hand is empty. The hand is the slot for a thread in transit to another
+    /// CPU.
     ///
     /// Requires: the running thread, if there is one, has a place in the table of guests.
     #[inline(always)]
@@ -264,7 +265,7 @@ impl<I: CallLayer<IpcLaw>> Cpu<I> {
 
     /// Takes one step of a CPU that needs no further poll of a lock: one local action or one atomic
     /// action. Returns `Halted` if it took none, and then nothing changed. The reason is `AllEnded`
-    /// if each home thread of the CPU has ended, and `TraceFull` if the trace has no room for the
+    /// if each home thread of the CPU has ended. It is `TraceFull` if the trace has no room for the
     /// call that its thread is about to begin.
     ///
     /// Requires: CPU and machine agree. The machine has room for one more event.
@@ -287,9 +288,9 @@ impl<I: CallLayer<IpcLaw>> Cpu<I> {
         Step::Stepped
     }
 
-    /// Takes polls in bulk if a section waits for its lock and the polls must fail: at most one for
-    /// each step of this CPU at the front of `steps`. Returns how many it took; nothing else has
-    /// changed.
+    /// Takes polls in bulk if a section waits for its lock and the polls must fail. Takes at most
+    /// one for each step of this CPU at the front of `steps`. Returns how many it took; nothing
+    /// else has changed.
     ///
     /// Requires: the part and the machine agree. The machine has room for as many events as there
     /// are steps.
@@ -311,8 +312,8 @@ impl<I: CallLayer<IpcLaw>> Cpu<I> {
 
     /// Takes one step of the CPU: one local action or one atomic action. Returns `Halted` if it
     /// took none, and then nothing changed. The reason is `AllEnded` if each home thread of the CPU
-    /// has ended, and `TraceFull` if the trace has no room for the call that its thread is about to
-    /// begin. Neither occurs while a section is under way.
+    /// has ended. It is `TraceFull` if the trace has no room for the call that its thread is about
+    /// to begin. Neither occurs while a section is under way.
     ///
     /// Requires: CPU and machine agree. The machine has room for one more event.
     pub fn step(&mut self, m: &mut I::Machine) -> Step

@@ -78,8 +78,8 @@ where
     /// Takes one step of `cpu`: one local action or one atomic action.
     ///
     /// Returns `Halted` if it took none, and then nothing changed. The reason is `AllEnded` if each
-    /// home thread of the CPU has ended, and `TraceFull` if the trace has no room for the call that
-    /// its thread is about to begin. Otherwise it is `StepsUsed` if the system's room is used.
+    /// home thread of the CPU has ended. It is `TraceFull` if the trace has no room for the call
+    /// that its thread is about to begin. Otherwise it is `StepsUsed` if the system's room is used.
     /// Neither of the first two occurs while the CPU has a section under way.
     ///
     /// Requires: the system has a CPU of this number.

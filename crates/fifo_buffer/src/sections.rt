@@ -115,8 +115,8 @@ pub fn begin(call_state: &mut CallState, call: &Call)
     }
 }
 
-/// Records the result of a section that entered a line or closed the buffer: the position of a
-/// thread that entered, the effect of a close. The numbers are in the parcel.
+/// Records the result of a section that entered a line or closed the buffer: the thread's position,
+/// or the effect of the close. The numbers are in the parcel.
 fn record_entry(call_state: &mut CallState, out: &QOut<CvOut<BareBufferOut>>, parcel: &Parcel)
     ensures { call_state.new ≡ enlisted call_state.old (reported_by (lock_told (cv_told buffer_told) out.now parcel.now)) }
 {

@@ -14,7 +14,7 @@ use layer_traits::{
 };
 
 /// One CPU's part of first-in first-out blocking buffers as they are specified, over a part `S` of
-/// sleep and wakeup: a message call is one section. It takes effect if the buffer allows it;
+/// sleep and wakeup. A message call is one section. It takes effect if the buffer allows it;
 /// otherwise its thread sleeps, and calls again after it is woken. A new caller may take what a
 /// thread was woken for, and that thread then sleeps again. A close wakes the first sleeping
 /// thread, and the effect of each wakes the next.

@@ -25,7 +25,7 @@ pub struct Unanswered<E, B> {
     parcel: Parcel,
 }
 
-/// One CPU's part of queuing locks as they are specified: a call is one edit of a lock that is
+/// One CPU's part of queuing locks as they are specified. A call is one edit of a lock that is
 /// plain data, done in one step. A call whose caller continues after it woke a thread of another
 /// CPU returns at the next poll. That poll forwards the thread to its home CPU.
 #[derive(Drop)]

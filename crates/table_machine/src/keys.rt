@@ -17,8 +17,8 @@ use std::marker::Model;
 /// The right to act for one CPU at one table, and all that the CPU has seen there. It may be moved
 /// between threads; there is one for each CPU of the table.
 ///
-/// In a contract it is a seat view: its CPU, its table, the blocks that the table opened with, and
-/// the words log that was seen, newest first.
+/// In a contract it is a seat view: its CPU, its table, the table's opening blocks, and the words
+/// log that was seen, newest first.
 #[derive(Drop)]
 pub struct Key<E: SplitEdit> {
     pub(crate) token: Token<E>,

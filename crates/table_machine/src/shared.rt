@@ -62,7 +62,7 @@ impl<E: SplitEdit, K: TableWords> Shared<E, K> {
         8 * ((CPUS + 1) * self.rank(lock) + word) + 8
     }
 
-    /// Returns how many tickets were drawn at a lock, modulo 2^64, as a hint: the result may be any
+    /// Returns how many tickets were drawn at a lock, modulo 2^64, as a hint. The result may be any
     /// number, also if there is no such lock. It is no event, and needs no seat.
     pub fn next_hint(&self, lock: LockId) -> u64 {
         let rank = self.ranks[lock.number()];

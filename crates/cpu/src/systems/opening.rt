@@ -14,8 +14,8 @@ use layer_traits::{CallLayer, IpcLaw, Owned};
 use std::alloc::Global;
 
 impl<I: CallLayer<IpcLaw>> Cpu<I> {
-    /// Returns a CPU before its first step, with the guests of its home threads, in a machine of
-    /// threads of these home CPUs and of so many buffers. Its trace has room for `limit` entries.
+    /// Returns a CPU before its first step, with the guests of its home threads. Its machine has
+    /// threads of these home CPUs and so many buffers. Its trace has room for `limit` entries.
     ///
     /// Requires: there are at most [`THREADS`](event_log::THREADS) homes.
     ///
