@@ -22,8 +22,8 @@ pub fn caller_of<G: Guarded>(call: &QEdit<CvEdit<G::Handed>, CvLeave>, parcel: &
     }
 }
 
-/// The side of a wait, with this parcel beside it, on which the side does not depend; `Receivers`
-/// for a call that is no wait.
+/// Returns the side of a wait, which does not depend on the parcel beside it; `Receivers` for a
+/// call that is no wait.
 #[inline(always)]
 pub fn side_of<G: Guarded>(call: &QEdit<CvEdit<G::Handed>, CvLeave>, parcel: &Parcel) -> Side
     ensures { result ≡ side_in (lock_meant (cv_meant G.meant) call.now parcel.now) }

@@ -15,7 +15,7 @@ pub struct Waits {
 }
 
 impl Waits {
-    /// The table in which no thread waits.
+    /// Returns the table in which no thread waits.
     pub fn new() -> Waits
         ensures { result.buffers ≡ replicate THREADS None }
     {
@@ -41,7 +41,7 @@ impl Waits {
         true
     }
 
-    /// If this call is a wait, ends the wait of `t`, and returns whether there was one. Other calls
+    /// Ends the wait of `t` if this call is a wait, and returns whether there was one. Other calls
     /// do not consult the table, because a thread that waits makes no other call.
     ///
     /// Requires: the thread is below `THREADS`.
@@ -80,7 +80,7 @@ impl Waits {
     }
 }
 
-/// Whether the lock's result says that the caller waits.
+/// Returns whether the lock's result says that the caller waits.
 #[inline(always)]
 fn has_waited<O>(answer: &Option<Outcome<QOut<CvOut<O>>>>) -> bool
     ensures { result ≡ is_wait answer.now }

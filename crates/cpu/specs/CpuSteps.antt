@@ -43,8 +43,8 @@ pub record Leaves {P L M : Type 0} (I : Ghosts P L M) (m : M) (p : Cpu P M) (n :
   pub others : (part : P) → I.cpu_of part ≢ p.number → I.Fits part m → I.Fits part n
   pub holders : (c : CpuId) → c ≢ p.number → I.ActsFor m c → I.MayHold n c → I.MayHold m c
 
--- the CPU and its machine agree: its part agrees with the machine and has its number, and its
--- invariant holds
+-- Coupling invariant: the CPU and its machine agree. Its part agrees with the machine and has its
+-- number, and its own invariant holds.
 pub record AgreesAt {P L M : Type 0} (I : Ghosts P L M) (m : M) (p : Cpu P M) : Type 0 where
   pub fits : I.Fits p.part m
   pub number : I.cpu_of p.part ≡ p.number

@@ -23,9 +23,9 @@ pub enum Choice {
 /// One CPU: its part of the layer of message calls, and its private data. It allocates nothing
 /// after it is made.
 ///
-/// It agrees with a machine (`AgreesAt`) if its part does and has the CPU's number. Its threads,
-/// guests and trace must also agree with what was done in the machine. If each poll is one action,
-/// the CPU is also in the state that the step table gives.
+/// It agrees with a machine (`AgreesAt`, the coupling invariant) if its part does and has the CPU's
+/// number. Its threads, guests and trace must also agree with what was done in the machine. If each
+/// poll is one action, the CPU is also in the state that the step table gives.
 #[derive(Drop)]
 pub struct Cpu<I: CallLayer<IpcLaw>> {
     /// The CPU's part of the layer.
@@ -46,7 +46,7 @@ impl<I: CallLayer<IpcLaw>> Cpu<I> {
     ghost use Rattle.cpu.specs.{CpuSteps.{AgreesAt, GoesAt, RanWithin, SteppedAt}, Cpus.{chosen, cpu_halted_at, step_answer}};
     ghost use Rattle.layer_traits.specs.Polling.Spins.{BeginWith, Misses, Spun};
 
-    /// What the CPU does next if it is not halted.
+    /// Returns what the CPU does next if it is not halted.
     #[inline(always)]
     fn choice(&self) -> Choice
         requires { (t : _) → (threads_in (I.own self.now.part)).current ≡ Some t → t.0 < length self.now.guests.items }
@@ -70,7 +70,7 @@ impl<I: CallLayer<IpcLaw>> Cpu<I> {
         }
     }
 
-    /// Why the CPU takes no step while no section is under way: `AllEnded` or `TraceFull`.
+    /// Returns why the CPU takes no step while no section is under way: `AllEnded` or `TraceFull`.
     ///
     /// Requires: the running thread, if there is one, has a place in the table of guests.
     #[inline(always)]
@@ -93,7 +93,7 @@ impl<I: CallLayer<IpcLaw>> Cpu<I> {
         None
     }
 
-    /// Why the CPU takes no step. It is `AllEnded` if each of its threads has ended. It is
+    /// Returns why the CPU takes no step. It is `AllEnded` if each of its threads has ended. It is
     /// `TraceFull` if its trace has no room for the call that its thread is about to begin. It is
     /// neither while a section is under way.
     ///
@@ -109,7 +109,7 @@ impl<I: CallLayer<IpcLaw>> Cpu<I> {
         self.halted()
     }
 
-    /// The entries of the CPU's calls that took effect, oldest first.
+    /// Returns the entries of the CPU's calls that took effect, oldest first.
     pub(crate) fn trace(&self) -> &[Entry]
         ensures { result.now ≡ self.now.trace.items }
     {
@@ -164,8 +164,9 @@ impl<I: CallLayer<IpcLaw>> Cpu<I> {
         self.pass(m, pass);
     }
 
-    /// Whether the CPU continues to drain: it is not halted, it has no running or ready thread, and
-    /// its hand (the slot for a thread in transit to another CPU) is empty.
+    /// Returns whether the CPU continues to drain. It does if it is not halted, has no running or
+    /// ready thread, and its hand is empty. The hand is the slot for a thread in transit to another
+    /// CPU.
     ///
     /// Requires: the running thread, if there is one, has a place in the table of guests.
     #[inline(always)]
@@ -216,9 +217,9 @@ impl<I: CallLayer<IpcLaw>> Cpu<I> {
         let _ = m;
     }
 
-    /// The steps of a CPU that is not halted and needs no further poll of a lock: each one local
-    /// action or one atomic action. If the CPU is at a message call or at a drain, these are up to
-    /// `most` steps of it; otherwise it is one step. Returns how many steps it took.
+    /// Takes steps of a CPU that is not halted and needs no further poll of a lock: each one local
+    /// action or one atomic action. At a message call or a drain these are up to `most` steps of
+    /// it; otherwise it is one step. Returns how many steps it took.
     ///
     /// Requires: as `run`.
     #[inline(always)]
@@ -264,7 +265,7 @@ impl<I: CallLayer<IpcLaw>> Cpu<I> {
 
     /// Takes one step of a CPU that needs no further poll of a lock: one local action or one atomic
     /// action. Returns `Halted` if it took none, and then nothing changed. The reason is `AllEnded`
-    /// if each home thread of the CPU has ended, and `TraceFull` if the trace has no room for the
+    /// if each home thread of the CPU has ended. It is `TraceFull` if the trace has no room for the
     /// call that its thread is about to begin.
     ///
     /// Requires: CPU and machine agree. The machine has room for one more event.
@@ -287,9 +288,9 @@ impl<I: CallLayer<IpcLaw>> Cpu<I> {
         Step::Stepped
     }
 
-    /// If a section waits for its lock and its polls must fail, takes polls in bulk: at most one
-    /// for each step of this CPU at the front of `steps`. Returns how many it took; nothing else
-    /// has changed.
+    /// Takes polls in bulk if a section waits for its lock and the polls must fail. Takes at most
+    /// one for each step of this CPU at the front of `steps`. Returns how many it took; nothing
+    /// else has changed.
     ///
     /// Requires: the part and the machine agree. The machine has room for as many events as there
     /// are steps.
@@ -311,8 +312,8 @@ impl<I: CallLayer<IpcLaw>> Cpu<I> {
 
     /// Takes one step of the CPU: one local action or one atomic action. Returns `Halted` if it
     /// took none, and then nothing changed. The reason is `AllEnded` if each home thread of the CPU
-    /// has ended, and `TraceFull` if the trace has no room for the call that its thread is about to
-    /// begin. Neither occurs while a section is under way.
+    /// has ended. It is `TraceFull` if the trace has no room for the call that its thread is about
+    /// to begin. Neither occurs while a section is under way.
     ///
     /// Requires: CPU and machine agree. The machine has room for one more event.
     pub fn step(&mut self, m: &mut I::Machine) -> Step
@@ -333,7 +334,7 @@ impl<I: CallLayer<IpcLaw>> Cpu<I> {
     }
 }
 
-/// What a CPU does next if this thread runs on it and this woken thread is in its hand.
+/// Returns what a CPU does next if this thread runs on it and this woken thread is in its hand.
 #[inline(always)]
 fn choice_for(thread: Tid, hand: Option<Tid>, guest: &Option<Guest>) -> Choice
     ensures { result ≡ chosen_for thread hand guest.now }
@@ -354,7 +355,7 @@ fn choice_for(thread: Tid, hand: Option<Tid>, guest: &Option<Guest>) -> Choice
     }
 }
 
-/// Whether there is a guest and it is in no call.
+/// Returns whether there is a guest and it is in no call.
 #[inline(always)]
 fn is_in_no_call(guest: &Option<Guest>) -> bool
     ensures { result ≡ begins_at guest.now }
@@ -397,7 +398,7 @@ fn put_entry(trace: &mut Vec<Entry>, entry: Entry)
     trace.push_reserved(entry);
 }
 
-/// The entry of an effect on this buffer.
+/// Returns the entry of an effect on this buffer.
 #[inline(always)]
 fn entry(cpu: CpuId, thread: Tid, buffer: BufId, effect: &Effect) -> Entry
     ensures { result ≡ entry_of cpu thread buffer effect.now }

@@ -42,7 +42,7 @@ impl Model for Guests {
 impl Guests {
     ghost use Rattle.{std.specs.{Borrow.sem, Io.BufRead.Rests}, cpu.specs.contracts.guest_tables.Guests.the_row};
 
-    /// The guests of this table.
+    /// Returns the guests of this table.
     pub(crate) fn new(table: Vec<Option<Guest>>) -> Guests
         ensures { result ≡ table }
     {
@@ -57,7 +57,7 @@ impl Guests {
         }
     }
 
-    /// What the table holds at this thread's number.
+    /// Returns what the table holds at this thread's number.
     ///
     /// Requires: the thread's number is one of the table.
     #[inline(always)]
@@ -68,7 +68,7 @@ impl Guests {
         &self.table[usize::from(thread.0)]
     }
 
-    /// Whether this CPU is the thread's home CPU: the table has a guest at its number.
+    /// Returns whether this CPU is the thread's home CPU: the table has a guest at its number.
     #[inline(always)]
     pub(crate) fn has(&self, thread: Tid) -> bool
         ensures { result ≡ is_some (guest_at self.now.items thread.0) }
@@ -76,7 +76,7 @@ impl Guests {
         matches!(self.table.get(usize::from(thread.0)), Some(Some(_)))
     }
 
-    /// How many of the guests are in a call that has not taken effect.
+    /// Returns how many of the guests are in a call that has not taken effect.
     #[inline(always)]
     pub(crate) fn begun(&self) -> usize
         ensures { result ≡ begun_count self.now.items }
@@ -84,7 +84,7 @@ impl Guests {
         self.begun
     }
 
-    /// Whether each of the guests has ended.
+    /// Returns whether each of the guests has ended.
     #[inline(always)]
     pub(crate) fn are_over(&self) -> bool
         ensures { result ≡ list_all is_over self.now.items }
@@ -92,7 +92,7 @@ impl Guests {
         self.live == 0
     }
 
-    /// The message call at which this thread's guest is, which is the call asked for. Returns a
+    /// Returns the message call at which this thread's guest is, which is the call asked for, by
     /// reference, so that nothing is copied. The call is made at the first poll, and kept until the
     /// guest continues or another thread calls.
     ///
@@ -113,8 +113,8 @@ impl Guests {
         &self.kept
     }
 
-    /// The message call at which this thread's guest is, in clauses only, if it is the call that is
-    /// kept. With it a poll does not read the guest's program.
+    /// Returns the message call at which this thread's guest is, in clauses only, if it is the call
+    /// that is kept. With it a poll does not read the guest's program.
     #[inline(always)]
     pub(crate) fn kept_for(&self, thread: Tid) -> Option<Ghost<Call>>
         ensures { IfSome result (λ call. stands_at_call (guest_at self.now.items thread.0) call) }
@@ -228,7 +228,8 @@ fn recount(begun: &mut usize, live: &mut usize, before: GuestStage, after: Guest
     }
 }
 
-/// A count after an item changed: `before` and `after` say whether the item is counted.
+/// Returns a count of items after one of them changed: `before` and `after` say whether the count
+/// includes that item.
 #[inline(always)]
 fn recounted(count: usize, before: bool, after: bool) -> usize
     requires counted { one_if before ≤ count }
@@ -244,7 +245,7 @@ fn recounted(count: usize, before: bool, after: bool) -> usize
     }
 }
 
-/// How many of the guests are in a call that has not taken effect.
+/// Returns how many of the guests are in a call that has not taken effect.
 fn count_begun(guests: &[Option<Guest>]) -> usize
     ensures { result ≡ begun_count guests.now }
 {
@@ -257,7 +258,7 @@ fn count_begun(guests: &[Option<Guest>]) -> usize
     count
 }
 
-/// How many of the guests have not ended.
+/// Returns how many of the guests have not ended.
 fn count_live(guests: &[Option<Guest>]) -> usize
     ensures { result ≡ count_by (λ x. not (is_over x)) guests.now }
 {
@@ -270,7 +271,7 @@ fn count_live(guests: &[Option<Guest>]) -> usize
     count
 }
 
-/// Whether there is a guest in a call that has not taken effect.
+/// Returns whether there is a guest in a call that has not taken effect.
 fn is_begun(guest: &Option<Guest>) -> bool
     ensures { result ≡ is_begun_guest guest.now }
 {
@@ -280,7 +281,7 @@ fn is_begun(guest: &Option<Guest>) -> bool
     }
 }
 
-/// Whether there is a guest that has not ended.
+/// Returns whether there is a guest that has not ended.
 fn is_live(guest: &Option<Guest>) -> bool
     ensures { result ≡ not (is_over guest.now) }
 {

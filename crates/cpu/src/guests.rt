@@ -25,7 +25,7 @@ impl GuestStage {
     ghost use Rattle.std.specs.Prelude.{◌≡◌, not};
     ghost use Rattle.cpu.specs.Guests.{is_begun, is_ended};
 
-    /// Whether it is inside a call that has not taken effect.
+    /// Returns whether it is inside a call that has not taken effect.
     #[inline(always)]
     pub(crate) fn is_begun(self) -> bool
         ensures { result ≡ is_begun self }
@@ -36,7 +36,7 @@ impl GuestStage {
         }
     }
 
-    /// Whether it is not `Ended`.
+    /// Returns whether it is not `Ended`.
     #[inline(always)]
     pub(crate) fn is_live(self) -> bool
         ensures { result ≡ not (is_ended self) }
@@ -75,7 +75,7 @@ pub struct Guest {
 impl Guest {
     ghost use Rattle.cpu.specs.Guests.{todo_of, new_guest, computed, passed, guest_ended, after_pass, fresh_effect, polled, is_calling};
 
-    /// A guest before its first instruction.
+    /// Returns a guest before its first instruction.
     pub(crate) fn new(program: Program) -> Guest
         ensures { result ≡ new_guest program }
     {
@@ -86,7 +86,7 @@ impl Guest {
         }
     }
 
-    /// What the guest does next.
+    /// Returns what the guest does next.
     #[inline(always)]
     pub(crate) fn todo(&self) -> Todo
         ensures { result ≡ todo_of self.now }
@@ -104,7 +104,7 @@ impl Guest {
         }
     }
 
-    /// The message call at which the guest is.
+    /// Returns the message call at which the guest is.
     #[inline(always)]
     fn call(&self) -> Call
         ensures { (call : Call) → todo_of self.now ≡ Calls call → result ≡ call }
@@ -136,7 +136,7 @@ impl Guest {
         }
     }
 
-    /// Whether the guest is inside a message call.
+    /// Returns whether the guest is inside a message call.
     #[inline(always)]
     pub(crate) fn is_calling(&self) -> bool
         ensures { result ≡ is_calling self.now.stage }
@@ -183,7 +183,7 @@ impl Guest {
         }
     }
 
-    /// Whether an effect that the guest's call has after a poll was made by that poll.
+    /// Returns whether an effect that the guest's call has after a poll was made by that poll.
     #[inline(always)]
     pub(crate) fn awaits(&self) -> bool
         ensures { (effect : Option Effect) → (if result then effect else None) ≡ fresh_effect self.now.stage effect }

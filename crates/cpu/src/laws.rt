@@ -19,7 +19,7 @@ pub fn runs_of_two()
 {}
 
 /// Worked runs of three threads, by computation. They show the second signal of a call, a lock that
-/// passes to its first sleeper, and a wait queue that is served first in, first out.
+/// passes to its first sleeper, and a first-in first-out wait queue.
 pub fn runs_of_three()
     ensures { RunsOfThree }
 {}

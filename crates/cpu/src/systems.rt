@@ -78,8 +78,8 @@ where
     /// Takes one step of `cpu`: one local action or one atomic action.
     ///
     /// Returns `Halted` if it took none, and then nothing changed. The reason is `AllEnded` if each
-    /// home thread of the CPU has ended, and `TraceFull` if the trace has no room for the call that
-    /// its thread is about to begin. Otherwise it is `StepsUsed` if the system's room is used.
+    /// home thread of the CPU has ended. It is `TraceFull` if the trace has no room for the call
+    /// that its thread is about to begin. Otherwise it is `StepsUsed` if the system's room is used.
     /// Neither of the first two occurs while the CPU has a section under way.
     ///
     /// Requires: the system has a CPU of this number.
@@ -117,7 +117,7 @@ where
         Step::Stepped
     }
 
-    /// Why `cpu` takes no step.
+    /// Returns why `cpu` takes no step.
     #[inline(always)]
     fn reason(&self, cpu: CpuId) -> Option<Reason>
         requires { cpu.0 < length self.now.cpus }
@@ -134,8 +134,8 @@ where
         None
     }
 
-    /// Why `cpu` takes no step, whatever room the system has: `AllEnded` or `TraceFull`, and
-    /// neither while a section of the CPU is under way.
+    /// Returns why `cpu` takes no step, whatever room the system has: `AllEnded` or `TraceFull`,
+    /// and neither while a section of the CPU is under way.
     ///
     /// Requires: the system has a CPU of this number.
     #[inline(always)]
@@ -212,8 +212,8 @@ where
         taken + looks
     }
 
-    /// What `buffer` holds, head first. A block that a CPU has in its hands counts as it was when
-    /// its lock was last released.
+    /// Returns what `buffer` holds, head first. A block that a CPU has in its hands counts as it
+    /// was when its lock was last released.
     ///
     /// Requires: the system has a buffer of this number.
     pub fn buffer(&self, buffer: BufId) -> ArrayVec<Msg, CAPACITY>
@@ -231,8 +231,8 @@ where
         ArrayVec::new()
     }
 
-    /// Whether a call has closed `buffer`. A block that a CPU has in its hands counts as it was
-    /// when its lock was last released.
+    /// Returns whether a call has closed `buffer`. A block that a CPU has in its hands counts as it
+    /// was when its lock was last released.
     ///
     /// Requires: the system has a buffer of this number.
     pub fn is_closed(&self, buffer: BufId) -> bool
@@ -250,8 +250,8 @@ where
         false
     }
 
-    /// The thread that owns the lock of `buffer`. A block that a CPU has in its hands counts as it
-    /// was when its lock was last released.
+    /// Returns the thread that owns the lock of `buffer`. A block that a CPU has in its hands
+    /// counts as it was when its lock was last released.
     ///
     /// Requires: the system has a buffer of this number.
     pub fn busy(&self, buffer: BufId) -> Option<Tid>
@@ -269,8 +269,8 @@ where
         None
     }
 
-    /// The place of `thread`: where it runs, waits or sleeps. A block that a CPU has in its hands
-    /// counts as it was when its lock was last released.
+    /// Returns the place of `thread`: where it runs, waits or sleeps. A block that a CPU has in its
+    /// hands counts as it was when its lock was last released.
     ///
     /// Requires: the system has a thread of this number.
     pub fn place(&self, thread: Tid) -> Place
@@ -283,7 +283,7 @@ where
         }
     }
 
-    /// The place of `thread`, asked of each CPU.
+    /// Returns the place of `thread`, from the first CPU that can report it.
     ///
     /// Requires: the system has a thread of this number.
     fn place_anywhere(&self, thread: Tid) -> Place
@@ -299,7 +299,8 @@ where
         Place::Ended
     }
 
-    /// The place of `thread`, asked only of its home CPU, which knows it of most threads.
+    /// Returns the place of `thread` as its home CPU reports it; `None` if that CPU cannot. It can
+    /// for most threads.
     ///
     /// Requires: the system has a thread of this number.
     fn place_at_home(&self, thread: Tid) -> Option<Place>
@@ -314,7 +315,7 @@ where
         None
     }
 
-    /// The entries of the calls that took effect on `cpu`, oldest first.
+    /// Returns the entries of the calls that took effect on `cpu`, oldest first.
     ///
     /// Requires: the system has a CPU of this number.
     pub fn trace(&self, cpu: CpuId) -> &[Entry]
@@ -325,7 +326,7 @@ where
         at.trace()
     }
 
-    /// How many CPUs the system has.
+    /// Returns how many CPUs the system has.
     pub fn cpus(&self) -> u8
         ensures cpus { result ≡ length self.now.cpus }
         ensures few { result ≤ CPUS }
@@ -333,7 +334,7 @@ where
         self.cpus.len() as u8
     }
 
-    /// How many threads the system has.
+    /// Returns how many threads the system has.
     pub fn threads(&self) -> usize
         ensures threads { result ≡ length self.now.homes }
         ensures few { result ≤ THREADS }
@@ -341,8 +342,8 @@ where
         self.threads
     }
 
-    /// The underlying machine. It is the one whose capacities, home CPUs, contents, wait lists,
-    /// owners, moves and actions the system shows, and no other holder acts in it.
+    /// Returns the underlying machine. It is the one whose capacities, home CPUs, contents, wait
+    /// lists, owners, moves and actions the system shows, and no other holder acts in it.
     pub fn machine(&self) -> &I::Machine
         ensures acts { (c : CpuId) → c.0 < CPUS → I.ActsFor result.now c }
         ensures shows { self.now ≡ shown_of (caps_in (I.opening result.now)) (homes_in (I.opening result.now)) (I.seen result.now) (I.wait_lists result.now)
@@ -364,7 +365,8 @@ where
         let _ = &self.room;
     }
 
-    /// A law of every system over layers whose polls are single actions. It computes nothing.
+    /// Law, of every system over layers whose polls are single actions: how many steps a call takes
+    /// without contention. The function computes nothing.
     ///
     /// A thread runs on a CPU that is not halted, at a call that has not begun. No spin lock is
     /// held or requested. No thread owns the call's buffer, which allows the call, and the call's
@@ -383,8 +385,8 @@ where
     }
 }
 
-/// How many of the steps at the front of `steps` are those of `cpu`. The next step is compared
-/// first, because a turn is often one step.
+/// Returns how many of the steps at the front of `steps` are those of `cpu`. The next step is
+/// compared first, because a turn is often one step.
 #[inline(always)]
 fn steps_behind(cpu: CpuId, steps: &[CpuId]) -> usize
     ensures { BeginWith cpu result steps.now }
@@ -395,8 +397,8 @@ fn steps_behind(cpu: CpuId, steps: &[CpuId]) -> usize
     }
 }
 
-/// Whether each of these CPUs has a number below this one. Only the greatest of them is compared,
-/// which is found without a branch for each.
+/// Returns whether each of these CPUs has a number below this one. Only the greatest of them is
+/// compared, which is found without a branch for each.
 fn are_below(cpus: &[CpuId], count: usize) -> bool
     ensures { (result ≡ true) ↔ All (λ c. c.0 < count) cpus.now }
 {

@@ -7,8 +7,8 @@ use event_log::NoMemory;
 use layer_traits::BufferBlock;
 use std::alloc::Global;
 
-/// The blocks of empty buffers with these capacities, in their order. All memory that they need is
-/// allocated here.
+/// Returns the blocks of empty buffers with these capacities, in their order. All memory that they
+/// need is allocated here.
 ///
 /// Requires: each capacity is from 1 to `CAPACITY`.
 ///

@@ -18,7 +18,7 @@ pub struct CallStates {
 }
 
 impl CallStates {
-    /// The table in which no thread has called.
+    /// Returns the table in which no thread has called.
     pub fn new() -> CallStates
         ensures { result.call_states ≡ replicate THREADS no_call }
     {
@@ -27,7 +27,7 @@ impl CallStates {
         }
     }
 
-    /// The effect of the newest call of `t`.
+    /// Returns the effect of the newest call of `t`.
     ///
     /// Requires: the thread is below `THREADS`.
     #[inline(always)]
@@ -38,7 +38,7 @@ impl CallStates {
         *self.effect_here(t)
     }
 
-    /// The same effect, by reference.
+    /// Returns the same effect, by reference.
     ///
     /// Requires: the thread is below `THREADS`.
     #[inline(always)]
@@ -49,8 +49,8 @@ impl CallStates {
         &self.call_states[usize::from(t.0)].effect
     }
 
-    /// Whether the call that a poll of `call` by `t` continues has taken effect. Between calls a
-    /// new one begins, which has not.
+    /// Returns whether the call that a poll of `call` by `t` continues has taken effect. Between
+    /// calls a new one begins, which has not.
     ///
     /// Requires: the thread is below `THREADS`.
     #[inline(always)]
@@ -63,7 +63,7 @@ impl CallStates {
         call_state.stage != Stage::Idle && call_state.effect.is_some()
     }
 
-    /// The stage that a poll of `call` by `t` continues. Between calls a new one begins.
+    /// Returns the stage that a poll of `call` by `t` continues. Between calls a new one begins.
     ///
     /// Requires: the thread is below `THREADS`.
     #[inline(always)]

@@ -12,7 +12,7 @@ use layer_traits::{
     QEdit, QOut, ReplyKind, Side, Stage,
 };
 
-/// A call's own side. A close signals the senders last.
+/// Returns a call's own side. A close signals the senders last.
 #[inline(always)]
 fn own_side(call: &Call) -> Side
     ensures { result ≡ side_of call.now }
@@ -23,7 +23,7 @@ fn own_side(call: &Call) -> Side
     }
 }
 
-/// The side that a call signals first.
+/// Returns the side that a call signals first.
 #[inline(always)]
 fn far_side(call: &Call) -> Side
     ensures { result ≡ other_side call.now }
@@ -34,7 +34,7 @@ fn far_side(call: &Call) -> Side
     }
 }
 
-/// The edit with which a call enters its line, or closes the buffer.
+/// Returns the edit with which a call enters its line, or closes the buffer.
 #[inline(always)]
 fn first_edit(t: Tid, call: &Call) -> BareBufferEdit
     ensures { (parcel : Parcel) → buffer_meant result parcel ≡ first_of t call.now }
@@ -46,7 +46,8 @@ fn first_edit(t: Tid, call: &Call) -> BareBufferEdit
     }
 }
 
-/// The edit that a call tries; a close never tries. A send stores its message in the payload.
+/// Returns the edit that a call tries; a close never tries. A send stores its message in the
+/// payload.
 #[inline(always)]
 fn next_try(t: Tid, call: &Call, parcel: &mut Parcel) -> BareBufferEdit
     ensures { buffer_meant result parcel.new ≡ try_of t call.now }
@@ -61,7 +62,8 @@ fn next_try(t: Tid, call: &Call, parcel: &mut Parcel) -> BareBufferEdit
     }
 }
 
-/// The kind of the reply of a call after an effect. The message of a receive is in the effect.
+/// Returns the kind of the reply of a call after an effect. The message of a receive is in the
+/// effect.
 #[inline(always)]
 fn kind_by(call: &Call, kind: Kind) -> ReplyKind
     ensures { (effect : Option Effect) → reply_with result effect ≡ reply_by call.now kind (message_of effect) }
@@ -79,8 +81,8 @@ fn kind_by(call: &Call, kind: Kind) -> ReplyKind
     }
 }
 
-/// The section of a call at a stage. It stores the message that the section puts, if it puts one:
-/// that of a send that tries.
+/// Returns the section of a call at a stage. If the section puts a message (that of a send that
+/// tries), stores the message in the parcel.
 #[inline(always)]
 pub fn section(
     t: Tid,
@@ -113,8 +115,8 @@ pub fn begin(call_state: &mut CallState, call: &Call)
     }
 }
 
-/// Records the result of a section that entered a line or closed the buffer: the position of a
-/// thread that entered, the effect of a close. The numbers are in the parcel.
+/// Records the result of a section that entered a line or closed the buffer: the thread's position,
+/// or the effect of the close. The numbers are in the parcel.
 fn record_entry(call_state: &mut CallState, out: &QOut<CvOut<BareBufferOut>>, parcel: &Parcel)
     ensures { call_state.new ≡ enlisted call_state.old (reported_by (lock_told (cv_told buffer_told) out.now parcel.now)) }
 {
@@ -186,8 +188,8 @@ pub fn record_section(
     }
 }
 
-/// The kind of the reply of a call whose section at this stage has ended: the kind of its effect,
-/// after the last section.
+/// Returns the kind of the reply of a call whose section at this stage has ended: the kind of its
+/// effect, after the last section.
 #[inline(always)]
 pub fn reply(call: &Call, stage: Stage, effect: &Option<Effect>) -> Option<ReplyKind>
     ensures { option_map (λ k. reply_with k effect.now) result ≡ reply_at call.now stage effect.now }
@@ -208,8 +210,8 @@ pub fn reply(call: &Call, stage: Stage, effect: &Option<Effect>) -> Option<Reply
     }
 }
 
-/// Whether the next section follows in the same poll because this stage's ends without an action.
-/// This is so at an Acquire whose thread was handed the lock, and at a wait.
+/// Returns whether the next section follows in the same poll because this stage's ends without an
+/// action. This is so at an Acquire whose thread was handed the lock, and at a wait.
 #[inline(always)]
 pub fn answers_at_once(stage: Stage, handed: bool) -> bool
     ensures { result ≡ is_at_once stage handed }

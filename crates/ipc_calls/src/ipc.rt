@@ -14,7 +14,7 @@ use layer_traits::{
 };
 use std::alloc::Global;
 
-/// Whether it is this thread.
+/// Returns whether it is this thread.
 fn is_it(t: Tid, other: Option<Tid>) -> bool
     ensures { result ≡ is_thread t other }
 {
@@ -24,7 +24,7 @@ fn is_it(t: Tid, other: Option<Tid>) -> bool
     }
 }
 
-/// Whether a report says yes.
+/// Returns whether a report says yes.
 fn says(observed: Option<bool>) -> bool
     ensures { result ≡ said observed }
 {
@@ -34,7 +34,7 @@ fn says(observed: Option<bool>) -> bool
     }
 }
 
-/// The place of a thread that sleeps in this wait list of a buffer.
+/// Returns the place of a thread that sleeps in this wait list of a buffer.
 fn waiters_of(buffer: BufId, wait_list: WaitList) -> Place
     ensures { result ≡ asleep_at buffer wait_list }
 {
@@ -192,7 +192,7 @@ impl<B: CallLayer<BufferLaw>> CallLayer<IpcLaw> for Ipc<B> {
 impl<B: OwnedBuffers> Ipc<B> {
     ghost use Rattle.event_log.specs.declared.ids.BufId.{BufId};
 
-    /// The place of `t` in this CPU's scheduling state; `None` if it is not there.
+    /// Returns the place of `t` in this CPU's scheduling state; `None` if it is not there.
     fn own_place(&self, t: Tid) -> Option<Place>
         requires { B.cpu_of self.now.lower ≡ self.now.cpu }
         ensures observed { (x : Place) → result ≡ Some x
@@ -215,7 +215,7 @@ impl<B: OwnedBuffers> Ipc<B> {
         None
     }
 
-    /// The home CPU of `t`, which must exist.
+    /// Returns the home CPU of `t`, which must exist.
     fn home(&self, t: Tid) -> CpuId
         requires { t.0 < length self.now.homes.items }
         ensures { home_of self.now.homes.items t ≡ Some result }
@@ -223,7 +223,7 @@ impl<B: OwnedBuffers> Ipc<B> {
         self.homes[usize::from(t.0)]
     }
 
-    /// Whether the machine or the part reports that `t` is in the pending queue of `d`.
+    /// Returns whether the machine or the part reports that `t` is in the pending queue of `d`.
     fn pends(&self, m: &B::Machine, d: CpuId, t: Tid) -> bool
         requires acts { (c : CpuId) × B.ActsFor m.now c }
         requires queue { IsSome (B.opening m.now (Pending d)) }
@@ -232,7 +232,7 @@ impl<B: OwnedBuffers> Ipc<B> {
         says(B::pends_in(m, d, t)) || says(self.lower.pends_here(d, t))
     }
 
-    /// The wait list of a buffer that contains `t`, as the machine or the part reports it.
+    /// Returns the wait list of a buffer that contains `t`, as the machine or the part reports it.
     fn wait_list(&self, m: &B::Machine, buffer: BufId, t: Tid) -> Option<WaitList>
         requires acts { (c : CpuId) × B.ActsFor m.now c }
         requires buffer { buffer.0 < length (caps_in (B.opening m.now)) }
@@ -244,7 +244,8 @@ impl<B: OwnedBuffers> Ipc<B> {
         }
     }
 
-    /// The first buffer, and its wait list, that the machine or the part reports to contain `t`.
+    /// Returns the first buffer, and its wait list, that the machine or the part reports to contain
+    /// `t`.
     fn asleep(&self, m: &B::Machine, t: Tid) -> Option<(BufId, WaitList)>
         requires acts { (c : CpuId) × B.ActsFor m.now c }
         requires count { length (caps_in (B.opening m.now)) ≡ self.now.buffers }

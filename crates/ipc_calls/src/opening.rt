@@ -21,8 +21,8 @@ pub trait OpensBuffers: OwnedBuffers {
     ghost use Rattle.event_log.specs.declared.ids.{CpuId.CpuId, LockId.TheVariants.Pending, TheConstants.CPUS};
     ghost use Rattle.layer_traits.specs.{Blocks.{BufferEffects.opening_locks, QueueBlocks.{homes_in, inner}}, Views.Openings.{AreOpenable, Opened}};
 
-    /// A machine of so many CPUs, with a buffer of each of these capacities and a thread of each of
-    /// these home CPUs. It has room for `room` polls. All memory is allocated here.
+    /// Returns a machine of so many CPUs, with a buffer of each of these capacities and a thread of
+    /// each of these home CPUs. It has room for `room` polls. All memory is allocated here.
     ///
     /// Requires: there are 1 to `CPUS` CPUs, and at most `BUFFERS` capacities, each from 1 to
     /// `CAPACITY`. There are at most `THREADS` homes, each one of the CPUs.
@@ -117,7 +117,7 @@ pub trait OpensLocks: OwnedThreadLayer<SleepLaw<LockEdit>> {
     ghost use Rattle.layer_traits.specs.{Blocks.{BufferEffects.opening_locks, QueueBlocks.{homes_in, inner}}, Views.{Openings.AreOpenable, Renaming.viewed}};
     ghost use Rattle.queuing_lock.specs.Nested.{nested_lock_of};
 
-    /// A machine of so many CPUs, with the lock of a buffer for each of these capacities and a
+    /// Returns a machine of so many CPUs, with a buffer's lock for each of these capacities and a
     /// thread of each of these home CPUs. It has room for `room` polls. All memory is allocated
     /// here.
     ///

@@ -68,7 +68,7 @@ impl<B: StepwiseBuffers> Stepwise for Ipc<B> {
     ghost steps = { B.steps };
 }
 
-/// A law: each poll of a stepwise layer is one action. The tower over the locks of an owned machine
+/// Law: each poll of a stepwise layer is one action. The tower over the locks of an owned machine
 /// is such a layer, with ticket locks or with grant words.
 pub fn tower_is_stepwise<I: Stepwise>()
     ensures { I.IsStepwise }

@@ -66,9 +66,9 @@ pub type TowerLaws = PhantomData<
     ),
 >;
 
-/// The locks of the tower at boot, each with its block. A CPU's block is an empty pending queue;
-/// that of a capacity is an empty buffer under a free lock. `homes` holds the home CPU of each
-/// thread. All memory that the blocks need is allocated here.
+/// Returns the locks of the tower at boot, each with its block. A CPU's block is an empty pending
+/// queue; that of a capacity is an empty buffer under a free lock. `homes` holds the home CPU of
+/// each thread. All memory that the blocks need is allocated here.
 ///
 /// Requires: there are 1 to `CPUS` CPUs, and at most `BUFFERS` capacities, each from 1 to
 /// `CAPACITY`. There are at most `THREADS` homes, each one of the CPUs.
@@ -92,9 +92,10 @@ pub fn tower_blocks(
     queue_blocks(alloc, blocks, cpus, homes)
 }
 
-/// The part of `cpu` at boot, over a machine in which nothing was done. The machine has the locks
-/// of the tower, with a buffer of each of these capacities and a thread of each of these home CPUs.
-/// The CPU has nothing under way and no thread has called, so any thread may begin a call there.
+/// Returns the part of `cpu` at boot, over a machine in which nothing was done. The machine has the
+/// locks of the tower, with a buffer of each of these capacities and a thread of each of these home
+/// CPUs. The CPU has nothing under way and no thread has called, so any thread may begin a call
+/// there.
 ///
 /// Requires: nothing was done in the machine, and its holder acts for the CPU. It opened with the
 /// locks of the tower: these homes, an empty buffer of each of these capacities, at most `BUFFERS`,

@@ -16,8 +16,8 @@ impl<B: WholeBuffers> Prompt for Ipc<B> {
     ghost whole = { B.whole };
 }
 
-/// A law: each poll of a prompt layer is a whole call. Message calls over one-step buffers are such
-/// a layer.
+/// Law: each poll of a prompt layer is a whole call. Message calls over one-step buffers are such a
+/// layer.
 pub fn calls_are_whole<I: Prompt>()
     ensures { I.IsWhole }
 {}

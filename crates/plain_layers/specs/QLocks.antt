@@ -29,11 +29,11 @@ block_of_lock lock = record {
 abbrev pub lock_in : {B : Type 0} → SleepBlock (QBlock B) → LockState B
 lock_in block = nested_lock_of (state_of block)
 
--- the edit that a call's handed part means, with the parcel of the payload
+-- Abstraction function: the edit that a call's handed part means, with the parcel of the payload.
 abbrev pub plain_meant : {H F R : Type 0} → (H → Parcel → F) → QEdit H R → Payload → SleepEdit (QLockEdit F R)
 plain_meant meant call payload = record { edit = record { edit = lock_meant meant call payload.parcel } }
 
--- the outcome for the layer above, with that parcel
+-- Abstraction function: the outcome for the layer above, with that parcel.
 abbrev pub plain_told : {B O : Type 0} → (B → Parcel → O) → Outcome (QOut B) → Payload → Outcome (QOut O)
 plain_told told outcome payload = nested_told (lock_told told) outcome payload
 

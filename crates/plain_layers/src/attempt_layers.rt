@@ -18,8 +18,9 @@ pub trait OpensAttempts: OwnedThreadLayer<SleepLaw<Attempt>> {
     ghost use Rattle.{event_log.specs.declared.ids.{CpuId.CpuId, LockId.TheVariants.Pending, TheConstants.CPUS}, layer_traits.specs.Views.Openings.AreOpenable};
     ghost use Rattle.{layer_traits.specs.Blocks.QueueBlocks.{homes_in, inner}, plain_layers.specs.{Fifos.fresh_buffers, Wholes.IsCoarse}};
 
-    /// A machine of so many CPUs, with an empty buffer of each of these capacities and a thread of
-    /// each of these home CPUs. It has room for `room` events. All memory is allocated here.
+    /// Returns a machine of so many CPUs, with an empty buffer of each of these capacities and a
+    /// thread of each of these home CPUs. It has room for `room` events. All memory is allocated
+    /// here.
     ///
     /// Requires: there are 1 to `CPUS` CPUs, and at most `BUFFERS` capacities, each from 1 to
     /// `CAPACITY`. There are at most `THREADS` homes, each one of the CPUs.
@@ -47,7 +48,8 @@ pub trait OpensAttempts: OwnedThreadLayer<SleepLaw<Attempt>> {
     ghost whole: { IsCoarse Self.IsWhole Self.IsStepwise };
 }
 
-/// Empty buffers of these capacities, in their order. All memory that they need is allocated here.
+/// Returns empty buffers of these capacities, in their order. All memory that they need is
+/// allocated here.
 ///
 /// Requires: each capacity is from 1 to `CAPACITY`.
 ///

@@ -42,7 +42,7 @@ pub enum Tried {
 }
 
 impl Tried {
-    /// The effect of the attempt, if it had one.
+    /// Returns the effect of the attempt, if it had one.
     pub fn effect(&self) -> Option<Effect>
         ensures { result ≡ effect_in self.now }
     {
@@ -90,7 +90,7 @@ impl Model for PlainBuffer {
 }
 
 impl PlainBuffer {
-    /// An empty buffer with room for `capacity` items.
+    /// Returns an empty buffer with room for `capacity` items.
     ///
     /// Requires: `capacity` is at most `CAPACITY`.
     pub fn new(capacity: usize) -> PlainBuffer
@@ -110,22 +110,22 @@ impl PlainBuffer {
         }
     }
 
-    /// The items, head first.
+    /// Returns the items, head first.
     pub fn items(&self) -> ArrayVec<Msg, CAPACITY>
         ensures { result.items ≡ self.now.items }
     {
         self.items.items()
     }
 
-    /// Whether it is closed.
+    /// Returns whether it is closed.
     pub fn is_closed(&self) -> bool
         ensures { result ≡ self.now.closed }
     {
         self.closed
     }
 
-    /// Whether a call may take effect: a send if there is room, a receive if there is an item, both
-    /// if the buffer is closed. A close always may.
+    /// Returns whether a call may take effect: a send if there is room, a receive if there is an
+    /// item, both if the buffer is closed. A close always may.
     fn allows(&self, ask: &Ask) -> bool
         ensures { result ≡ allows ask.now self.now }
     {
@@ -136,7 +136,7 @@ impl PlainBuffer {
         }
     }
 
-    /// Whether a thread waits on this side.
+    /// Returns whether a thread waits on this side.
     fn has_waiting(&self, side: Side) -> bool
         ensures { result ≡ is_some (first (waiting_on side self.now)) }
     {
@@ -261,7 +261,7 @@ pub fn closed_buffers_let_all_go()
     ensures wakes { (ask : Ask) (x : PlainState) → closed_after ask x ≡ true → attempt_wakes ask x ≡ Nobody → (x.receivers ≡ []) × (x.senders ≡ []) }
 {}
 
-/// The side of a call.
+/// Returns the side of a call.
 fn attempt_side(ask: &Ask) -> Side
     ensures { result ≡ attempt_side ask.now }
 {

@@ -15,8 +15,8 @@ use std::alloc::Global;
 const MOST: u8 = 8;
 
 /// One CPU's part of a lock whose CPUs back off between two tries. After each try it skips polls of
-/// a section that is under way: 1 at first, twice as many after each further try up to `MOST`, then
-/// 1 again.
+/// a section that is under way. It skips 1 at first, twice as many after each further try up to
+/// `MOST`, then 1 again.
 #[derive(Drop)]
 pub struct Backoff<L> {
     lower: L,

@@ -14,7 +14,7 @@ use layer_traits::{
 };
 
 /// One CPU's part of first-in first-out blocking buffers as they are specified, over a part `S` of
-/// sleep and wakeup: a message call is one section. It takes effect if the buffer allows it;
+/// sleep and wakeup. A message call is one section. It takes effect if the buffer allows it;
 /// otherwise its thread sleeps, and calls again after it is woken. A new caller may take what a
 /// thread was woken for, and that thread then sleeps again. A close wakes the first sleeping
 /// thread, and the effect of each wakes the next.
@@ -24,7 +24,7 @@ pub struct PlainFifo<S> {
     call_states: [CallState; THREADS],
 }
 
-/// What a call asks of its buffer.
+/// Returns what a call asks of its buffer.
 fn ask_in(call: &Call) -> Ask
     ensures { result ≡ ask_of call.now }
 {
@@ -35,7 +35,7 @@ fn ask_in(call: &Call) -> Ask
     }
 }
 
-/// The section of a call.
+/// Returns the section of a call.
 fn attempt_in(t: Tid, call: &Call) -> Attempt
     ensures { result ≡ attempt_of t call.now }
 {
@@ -45,7 +45,7 @@ fn attempt_in(t: Tid, call: &Call) -> Attempt
     }
 }
 
-/// The call state of a thread after its section had this effect, or none.
+/// Returns the call state of a thread after its section had this effect, or none.
 fn next(call: &Call, effect: &Option<Effect>) -> CallState
     ensures { result ≡ call_state_after call.now effect.now }
 {
@@ -65,7 +65,7 @@ fn next(call: &Call, effect: &Option<Effect>) -> CallState
     }
 }
 
-/// The kind of the reply of a call after this effect.
+/// Returns the kind of the reply of a call after this effect.
 fn answer(call: &Call, effect: &Effect) -> ReplyKind
     ensures { reply_with result (Some effect.now) ≡ reply_of call.now effect.now }
 {
@@ -82,7 +82,7 @@ fn answer(call: &Call, effect: &Effect) -> ReplyKind
     }
 }
 
-/// The kind of the reply of a call after this effect, or none.
+/// Returns the kind of the reply of a call after this effect, or none.
 fn reply(call: &Call, effect: &Option<Effect>) -> Option<ReplyKind>
     ensures { option_map (λ kind. reply_with kind effect.now) result ≡ reply_to call.now effect.now }
 {

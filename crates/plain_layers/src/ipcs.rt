@@ -34,7 +34,7 @@ impl<S: OpensAttempts> OpensBuffers for PlainFifo<S> {
     }
 }
 
-/// The error for more bytes than a list can have.
+/// Returns the error for more bytes than a list can have.
 fn refusal_of(alloc: Global, bytes: usize) -> NoMemory
     requires { 2 ^ 63 ≤ bytes }
 {

@@ -38,8 +38,8 @@ pub struct PlainKernel<E: Moves> {
 }
 
 impl<E: Moves> PlainKernel<E> {
-    /// A machine of so many CPUs, with no pending thread and with the block of each buffer in its
-    /// place. `homes` holds the home CPU of each thread; there is room for `room` calls.
+    /// Returns a machine of so many CPUs, with no pending thread and with the block of each buffer
+    /// in its place. `homes` holds the home CPU of each thread; there is room for `room` calls.
     ///
     /// Requires: there are 1 to `CPUS` CPUs, at most `BUFFERS` blocks and at most `THREADS` homes.
     /// Each home is one of the CPUs.
@@ -106,14 +106,14 @@ impl<E: Moves> PlainKernel<E> {
         answer
     }
 
-    /// The block of the buffer `b`; `None` if there is no such buffer.
+    /// Returns the block of the buffer `b`; `None` if there is no such buffer.
     pub fn block(&self, b: BufId) -> Option<&E::Block>
         ensures { option_map (λ block. block.now) result ≡ slice_get self.now.lists.buffers.items b.0 }
     {
         self.lists.buffers.get(usize::from(b.0))
     }
 
-    /// Whether `t` is pending at the CPU `d`; `None` if there is no such CPU.
+    /// Returns whether `t` is pending at the CPU `d`; `None` if there is no such CPU.
     pub fn pends(&self, d: CpuId, t: Tid) -> Option<bool>
         ensures { result ≡ option_map (λ queue. is_in t queue) (slice_get self.now.lists.pending.items d.0) }
     {
@@ -124,7 +124,7 @@ impl<E: Moves> PlainKernel<E> {
     }
 }
 
-/// The call that its handed part and the payload mean.
+/// Returns the call that its handed part and the payload mean.
 fn whole_call<E: Moves>(call: &QueueCall<E::Handed>, payload: &Payload) -> QueueCall<E>
     ensures { result ≡ call_meant E.meant call.now payload.now }
 {
@@ -162,7 +162,7 @@ fn do_call<E: Moves>(
     }
 }
 
-/// An empty queue for each of so many CPUs.
+/// Returns an empty queue for each of so many CPUs.
 fn empty_queues(alloc: Global, cpus: u8) -> Result<Vec<ThreadQueue>, NoMemory>
     ensures { IfOk result (λ queues. queues.items ≡ replicate cpus []) }
 {

@@ -33,7 +33,7 @@ pub struct LockTable<E: SplitEdit> {
 }
 
 impl<E: SplitEdit> LockTable<E> {
-    /// A machine with these locks, each with its block, and with room for `room` sections.
+    /// Returns a machine with these locks, each with its block, and with room for `room` sections.
     ///
     /// Errors: `NoMemory` if an allocation failed; then the blocks are dropped.
     pub fn open(
@@ -86,7 +86,7 @@ impl<E: SplitEdit> LockTable<E> {
         answer
     }
 
-    /// The block of `lock`, which exists.
+    /// Returns the block of `lock`, which exists.
     ///
     /// Requires: the blocks are what the sections make of them, and the lock exists.
     pub fn block(&self, lock: LockId) -> Option<&E::Block>
@@ -116,7 +116,7 @@ fn edit_at<E: SplitEdit>(
     E::apply_handed(handed, &mut blocks[slot].1, payload)
 }
 
-/// The slot of `lock` in the list: the first entry that names it.
+/// Returns the slot of `lock` in the list: the first entry that names it.
 fn slot_of<B>(blocks: &[(LockId, B)], lock: LockId) -> usize
     requires { IsSome (opened blocks.now lock) }
     ensures { IsSlot lock result blocks.now }

@@ -40,21 +40,21 @@ impl<B> Model for PlainQBlock<B> {
 }
 
 impl<B> PlainQBlock<B> {
-    /// What the lock guards.
+    /// Returns what the lock guards.
     pub(crate) fn above(&self) -> &B
         ensures { result.now ≡ self.now.above.above }
     {
         &self.above
     }
 
-    /// The thread that owns the lock, if there is one.
+    /// Returns the thread that owns the lock, if there is one.
     pub(crate) fn owner(&self) -> Option<Tid>
         ensures { result ≡ self.now.above.busy }
     {
         self.owner
     }
 
-    /// The list in which `t` waits; `None` if it waits in none.
+    /// Returns the list in which `t` waits; `None` if it waits in none.
     pub(crate) fn wait_list(&self, t: Tid) -> Option<WaitList>
         ensures { result ≡ wait_list_under t (lock_in self.now) }
     {
@@ -71,7 +71,7 @@ impl<B> PlainQBlock<B> {
     }
 }
 
-/// The locks at boot, in the order of what they guard. No thread owns one or waits at one.
+/// Returns the locks at boot, in the order of what they guard. No thread owns one or waits at one.
 ///
 /// Errors: `NoMemory` if an allocation failed; then what they guard is dropped.
 pub fn plain_locks<B: Drop>(alloc: Global, blocks: Vec<B>) -> Result<Vec<PlainQBlock<B>>, NoMemory>
@@ -163,7 +163,7 @@ fn wait(side: Option<Side>, t: Tid, receivers: &mut ThreadQueue, senders: &mut T
     }
 }
 
-/// The list of the threads that wait on a side.
+/// Returns the list of the threads that wait on a side.
 fn list_of(side: Option<Side>) -> Option<WaitList>
     ensures { result ≡ wait_list_for side }
 {

@@ -25,7 +25,7 @@ pub struct Unanswered<E, B> {
     parcel: Parcel,
 }
 
-/// One CPU's part of queuing locks as they are specified: a call is one edit of a lock that is
+/// One CPU's part of queuing locks as they are specified. A call is one edit of a lock that is
 /// plain data, done in one step. A call whose caller continues after it woke a thread of another
 /// CPU returns at the next poll. That poll forwards the thread to its home CPU.
 #[derive(Drop)]
@@ -36,7 +36,7 @@ pub struct PlainQLock<F: Locked> {
     kept: Option<Unanswered<PlainQEdit<F, F::Release>, QOut<F::Brought>>>,
 }
 
-/// The thread that calls.
+/// Returns the thread that calls.
 fn caller<F: Locked>(call: &QEdit<F::Handed, F::Release>) -> Tid
     ensures { (parcel : Parcel) → result ≡ lock_caller F.rules (lock_meant F.meant call.now parcel) }
 {
@@ -47,7 +47,7 @@ fn caller<F: Locked>(call: &QEdit<F::Handed, F::Release>) -> Tid
     }
 }
 
-/// Whether `t` slept for a lock.
+/// Returns whether `t` slept for a lock.
 fn has_slept(slept: &[Option<BufId>; THREADS], t: Tid) -> bool
     ensures { result ≡ is_some (slept_for slept.now t) }
 {
@@ -59,7 +59,7 @@ fn has_slept(slept: &[Option<BufId>; THREADS], t: Tid) -> bool
     }
 }
 
-/// The thread in the hand of a scheduler's part.
+/// Returns the thread in the hand of a scheduler's part.
 fn hand_of<E: Moves>(sched: &PlainSched<E>) -> Option<Tid>
     ensures { result ≡ sched.now.own.hand }
 {
@@ -74,7 +74,7 @@ fn wake_up(slept: &mut [Option<BufId>; THREADS], t: Tid)
     slept[usize::from(t.0)] = None;
 }
 
-/// The scheduler's next call: a thread in the hand is first forwarded to its home CPU.
+/// Returns the scheduler's next call: a thread in the hand is first forwarded to its home CPU.
 fn due<H: Drop>(hand: Option<Tid>, buffer: BufId, call: H) -> SchedCall<H>
     ensures { result ≡ due hand buffer call }
 {

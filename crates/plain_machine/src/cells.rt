@@ -61,7 +61,7 @@ pub fn look<K: LineWords, B>(
     }
 }
 
-/// Whether a poll of `lock` with `ticket` would succeed.
+/// Returns whether a poll of `lock` with `ticket` would succeed.
 ///
 /// Requires: the lock is in the table.
 #[inline(always)]
@@ -95,7 +95,7 @@ pub fn give<K: LineWords, B: Drop>(cells: &mut Vec<Option<Cell<K, B>>>, lock: Lo
     }
 }
 
-/// The block of `lock`, while no CPU has it.
+/// Returns the block of `lock`, while no CPU has it.
 ///
 /// Requires: the lock is in the table.
 pub fn home<K, B>(cells: &Vec<Option<Cell<K, B>>>, lock: LockId) -> Option<&B>
@@ -108,7 +108,7 @@ pub fn home<K, B>(cells: &Vec<Option<Cell<K, B>>>, lock: LockId) -> Option<&B>
     }
 }
 
-/// The words of `lock`.
+/// Returns the words of `lock`.
 ///
 /// Requires: the lock is in the table.
 pub fn words<K: Copy, B>(cells: &Vec<Option<Cell<K, B>>>, lock: LockId) -> K
@@ -121,7 +121,7 @@ pub fn words<K: Copy, B>(cells: &Vec<Option<Cell<K, B>>>, lock: LockId) -> K
     }
 }
 
-/// The length of a table that has a slot for each of these locks.
+/// Returns the length of a table that has a slot for each of these locks.
 pub fn table_len<B>(blocks: &Vec<(LockId, B)>) -> usize
     ensures { All (λ entry. lock_number entry.0 < result) blocks.now.items }
 {
@@ -135,7 +135,7 @@ pub fn table_len<B>(blocks: &Vec<(LockId, B)>) -> usize
     len
 }
 
-/// A table of `len` slots, all empty.
+/// Returns a table of `len` slots, all empty.
 ///
 /// Errors: `NoMemory` if the allocation failed.
 pub fn empty_table<K: Drop, B: Drop>(

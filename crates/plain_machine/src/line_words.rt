@@ -11,7 +11,7 @@ pub trait LineWords: Copy + Drop {
     /// After so many spots taken and so many releases, the words may be these.
     ghost Fit: { ℕ → ℕ → Self → Type 0 };
 
-    /// The words of a lock that no CPU has used.
+    /// Returns the words of a lock that no CPU has used.
     fn fresh() -> Self
         ensures { Fit 0 0 result };
 
@@ -19,8 +19,8 @@ pub trait LineWords: Copy + Drop {
     fn take(&mut self) -> u64
         ensures { (taken given : ℕ) → Fit taken given self.old → (result ≡ taken % 2 ^ 64) × Fit (taken + 1) given self.new };
 
-    /// Whether the spot of this ticket is served. The words determine it exactly among spots that
-    /// are as near one another as those of the CPUs of one machine.
+    /// Returns whether the spot of this ticket is served. The words determine it exactly among
+    /// spots that are as near one another as those of the CPUs of one machine.
     fn serves(&self, ticket: u64) -> bool
         ensures { (taken given spot : ℕ) → Fit taken given self.now → given ≤ spot → spot < given + CPUS → ticket ≡ spot % 2 ^ 64
             → result ≡ (given == spot) };
@@ -124,7 +124,7 @@ impl LineWords for Granting {
     }
 }
 
-/// The index of the grant word that a ticket polls.
+/// Returns the index of the grant word that a ticket polls.
 #[inline(always)]
 fn word_of(ticket: u64) -> usize
     ensures is { result ≡ ticket % CPUS }

@@ -23,7 +23,7 @@ impl<E, H> Model for LoggedEdit<E, H> {
 }
 
 impl<E, H> LoggedEdit<E, H> {
-    /// The log entry of this edit, with the part that was passed to the machine.
+    /// Returns the log entry of this edit, with the part that was passed to the machine.
     #[inline(always)]
     pub fn of(handed: H, edit: &E) -> LoggedEdit<E, H>
         ensures { result ≡ edit.now }

@@ -41,7 +41,7 @@ impl<M> Notes<M> {
     ghost use Rattle.event_log.specs.declared.events.Event.TheVariants as event;
     ghost use Rattle.plain_machine.specs.{Machine.{history, room_left}, Stored.repeated};
 
-    /// An empty log with room for `n` events.
+    /// Returns an empty log with room for `n` events.
     ///
     /// Errors: `NoMemory` if an allocation failed; nothing was made.
     pub fn with_room(alloc: Global, n: usize) -> Result<Notes<M>, NoMemory>

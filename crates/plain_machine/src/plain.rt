@@ -30,7 +30,8 @@ impl<E: SplitEdit, K: LineWords> Plain<E, K> {
     ghost use Rattle.{layer_traits.specs.Protocols.{OneLock.{SomeoneInside, opened}, WordsProtocol.sections}, plain_machine.specs.Machine.{IsServed, history}};
     ghost use Rattle.plain_machine.specs.{Machine.room_left, Table.home_at};
 
-    /// A machine in which no CPU has used a lock or has its block, with room for `room` events.
+    /// Returns a machine in which no CPU has used a lock or has its block, with room for `room`
+    /// events.
     ///
     /// Requires: no lock occurs twice.
     ///
@@ -59,7 +60,7 @@ impl<E: SplitEdit, K: LineWords> Plain<E, K> {
         })
     }
 
-    /// The block of `lock`: `None` exactly while a CPU has it.
+    /// Returns the block of `lock`: `None` exactly while a CPU has it.
     ///
     /// Requires: the holder acts for some CPU, and the lock is one of the machine.
     pub fn home(&self, lock: LockId) -> Option<&E::Block>
@@ -78,8 +79,8 @@ impl<E: SplitEdit, K: LineWords> Plain<E, K> {
 impl<E: SplitEdit> Plain<E, LockWords> {
     ghost use Rattle.event_log.specs.WordsLog.{draws, frees};
 
-    /// The words of `lock`, modulo 2^64: how many tickets were drawn, and how often the lock was
-    /// freed.
+    /// Returns the words of `lock`, modulo 2^64: how many tickets were drawn, and how often the
+    /// lock was freed.
     ///
     /// Requires: the holder acts for some CPU, and the lock is one of the machine.
     pub fn words(&self, lock: LockId) -> LockWords
@@ -95,8 +96,8 @@ impl<E: SplitEdit> Plain<E, LockWords> {
 impl<E: SplitEdit> Plain<E, Granting> {
     ghost use Rattle.{std.specs.Prelude.slice_index, event_log.specs.{declared.ids.TheConstants.CPUS, Grants.{tickets, grant_word}}};
 
-    /// The words of `lock`: how many tickets were taken, modulo 2^64, and what the gives left in
-    /// each grant word.
+    /// Returns the words of `lock`: how many tickets were taken, modulo 2^64, and what the gives
+    /// left in each grant word.
     ///
     /// Requires: the holder acts for some CPU, and the lock is one of the machine.
     pub fn words(&self, lock: LockId) -> GrantLockWords

@@ -41,7 +41,7 @@ impl<E: SplitEdit, K: TableWords> Shared<E, K> {
         returned(table.close_with(seat), locks, blocks)
     }
 
-    // A new seat that has merged all keys.
+    // Returns a new seat that has merged all keys.
     fn gathered(&self, keys: Vec<Key<E>>) -> Token<E>
         requires { All (IsOver self.now) keys.items }
         ensures table { result.table_id ≡ self.now.table }
@@ -75,7 +75,7 @@ impl<E: SplitEdit, K: TableWords> Shared<E, K> {
     }
 }
 
-// The blocks in the slots, with their locks.
+// Returns the blocks in the slots, with their locks.
 fn returned<E: SplitEdit>(
     mut closed: Closed<Slot<E, E::Block>, Global>,
     locks: Vec<LockId>,

@@ -17,8 +17,8 @@ use std::marker::Model;
 /// The right to act for one CPU at one table, and all that the CPU has seen there. It may be moved
 /// between threads; there is one for each CPU of the table.
 ///
-/// In a contract it is a seat view: its CPU, its table, the blocks that the table opened with, and
-/// the words log that was seen, newest first.
+/// In a contract it is a seat view: its CPU, its table, the table's opening blocks, and the words
+/// log that was seen, newest first.
 #[derive(Drop)]
 pub struct Key<E: SplitEdit> {
     pub(crate) token: Token<E>,
@@ -38,14 +38,14 @@ impl<E: SplitEdit> Model for Key<E> {
 }
 
 impl<E: SplitEdit> Key<E> {
-    /// The CPU whose key it is.
+    /// Returns the CPU whose key it is.
     pub fn cpu(&self) -> CpuId
         ensures { result ≡ self.now.cpu }
     {
         self.cpu
     }
 
-    // What was seen is legal.
+    // Law: what was seen is legal.
     pub(crate) fn lawful(&self)
         ensures { IsLawful (MayCome (E.rules.allowed (opened self.now.start))) self.now.seen }
     {
@@ -127,7 +127,7 @@ impl<E: SplitEdit> Key<E> {
         }
     }
 
-    // What was seen, in a token that acts for no CPU.
+    // Returns what was seen, in a token that acts for no CPU.
     pub(crate) fn notes<K: TableWords>(&mut self, shared: &Shared<E, K>) -> Token<E>
         requires { IsOf shared.now self.old }
         ensures same { self.new ≡ self.old }

@@ -26,8 +26,8 @@ struct Layout<E: SplitEdit> {
 }
 
 impl<E: SplitEdit, K: TableWords> Shared<E, K> {
-    /// A table with these locks and blocks, of which there may be none, and one key for each CPU,
-    /// from CPU 0 upwards. No event has occurred yet: the log of each key is empty.
+    /// Returns a table with these locks and blocks, of which there may be none, and one key for
+    /// each CPU, from CPU 0 upwards. No event has occurred yet: the log of each key is empty.
     ///
     /// Requires: no lock occurs twice, and there are at most `CPUS` CPUs.
     ///
@@ -85,7 +85,7 @@ impl<E: SplitEdit, K: TableWords> Shared<E, K> {
     }
 }
 
-// The table, with the seat that acts for all its CPUs.
+// Returns the table, with the seat that acts for all its CPUs.
 fn opened_table<E: SplitEdit, K: TableWords>(
     alloc: Global,
     blocks: Vec<(LockId, E::Block)>,
@@ -115,7 +115,8 @@ fn opened_table<E: SplitEdit, K: TableWords>(
     }
 }
 
-// The table with the row of ranks beside it, and the room for the blocks that `close` returns.
+// Returns the table with the row of ranks beside it, and the room for the blocks that `close`
+// returns.
 fn furnished<E: SplitEdit, K: TableWords>(
     made: (Whole<E, K>, Token<E>),
     ranks: Vec<usize>,
@@ -167,7 +168,7 @@ fn laid_out<E: SplitEdit, K: TableWords>(
     })
 }
 
-// The words of so many locks at the start.
+// Returns the words of so many locks at the start.
 fn first_words<K: TableWords>(alloc: Global, locks: usize) -> Result<Vec<u64>, AllocError>
     ensures words { IfOk result (λ v. AreFirst K.kind.opens locks locks v.items) }
     ensures small { IfOk result (λ v. word_count locks < 2 ^ 64) }
@@ -179,7 +180,7 @@ fn first_words<K: TableWords>(alloc: Global, locks: usize) -> Result<Vec<u64>, A
     Ok(words)
 }
 
-// The words of so many locks, all 0.
+// Returns the words of so many locks, all 0.
 fn zero_words(alloc: Global, locks: usize) -> Result<Vec<u64>, AllocError>
     ensures words { IfOk result (λ v. v.items ≡ replicate (word_count locks) 0) }
     ensures small { IfOk result (λ v. word_count locks < 2 ^ 64) }
@@ -191,7 +192,7 @@ fn zero_words(alloc: Global, locks: usize) -> Result<Vec<u64>, AllocError>
     Ok(words)
 }
 
-// A row that gives the rank of each lock.
+// Returns a row that gives the rank of each lock.
 fn ranks_of<B>(alloc: Global, blocks: &[(LockId, B)]) -> Result<Vec<usize>, AllocError>
     ensures row { IfOk result (λ v. length v.items ≡ LOCKS) }
     ensures ranks { IfOk result (λ v. AreRanks v.items blocks.now) }
@@ -205,7 +206,7 @@ fn ranks_of<B>(alloc: Global, blocks: &[(LockId, B)]) -> Result<Vec<usize>, Allo
     Ok(ranks)
 }
 
-// The locks, and their slots with the opening blocks.
+// Returns the locks, and their slots with the opening blocks.
 fn parted<E: SplitEdit>(
     alloc: Global,
     blocks: Vec<(LockId, E::Block)>,

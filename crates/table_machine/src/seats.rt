@@ -49,8 +49,8 @@ impl<E: SplitEdit, K: TableWords> Shared<E, K> {
 }
 
 impl<'a, E: SplitEdit, K: TableWords> Seat<'a, E, K> {
-    /// The seat's table. The key that the seat returns may be used for a seat there again, whatever
-    /// was done through the seat in between.
+    /// Returns the seat's table. The key that the seat returns may be used for a seat there again,
+    /// whatever was done through the seat in between.
     pub fn table(&self) -> &'a Shared<E, K>
         ensures { IsOf result.now self.now }
     {

@@ -43,7 +43,7 @@ impl<E: SplitEdit, K: TableWords> Model for Shared<E, K> {
 
 impl<E: SplitEdit, K: TableWords> Shared<E, K> {
     #[tactic(auto, using(crate::proofs::Finding::rank_below))]
-    // The rank of a lock among those of the opening.
+    // Returns the rank of a lock among those of the opening.
     pub(crate) fn rank(&self, lock: LockId) -> usize
         requires { IsSome (opened self.now.start lock) }
         ensures rank { result ≡ rank_of self.now.start lock }
@@ -53,7 +53,7 @@ impl<E: SplitEdit, K: TableWords> Shared<E, K> {
         self.ranks[lock.number()]
     }
 
-    // The position of a lock's word, by the word's number.
+    // Returns the position of a lock's word, by the word's number.
     pub(crate) fn word(&self, lock: LockId, word: usize) -> usize
         requires lock { IsSome (opened self.now.start lock) }
         requires word { word ≤ CPUS }
@@ -62,8 +62,8 @@ impl<E: SplitEdit, K: TableWords> Shared<E, K> {
         8 * ((CPUS + 1) * self.rank(lock) + word) + 8
     }
 
-    /// How many tickets were drawn at a lock, modulo 2^64, as a hint: the result may be any number,
-    /// also if there is no such lock. It is no event, and needs no seat.
+    /// Returns how many tickets were drawn at a lock, modulo 2^64, as a hint. The result may be any
+    /// number, also if there is no such lock. It is no event, and needs no seat.
     pub fn next_hint(&self, lock: LockId) -> u64 {
         let rank = self.ranks[lock.number()];
         if rank < self.locks.len() {

@@ -13,23 +13,23 @@ pub trait TableWords: Drop {
     /// The words, as data.
     ghost kind: { WordKind };
 
-    /// What word 1 holds when the table opens; every other word holds 0.
+    /// Returns what word 1 holds when the table opens; every other word holds 0.
     fn opens() -> u64
         ensures { result ≡ kind.opens };
 
-    /// The word that a CPU polls while it waits with this ticket.
+    /// Returns the word that a CPU polls while it waits with this ticket.
     fn looks_at(ticket: u64) -> usize
         ensures { result ≡ kind.looks_at ticket };
 
-    /// Whether the ticket is served, by the number that its word held.
+    /// Returns whether the ticket is served, by the number that its word held.
     fn serves(ticket: u64, read: u64) -> bool
         ensures { result ≡ kind.serves ticket read };
 
-    /// The word that the CPU which holds this ticket writes to release the lock.
+    /// Returns the word that the CPU which holds this ticket writes to release the lock.
     fn gives_at(ticket: u64) -> usize
         ensures { result ≡ kind.gives_at ticket };
 
-    /// What that CPU stores there; `None` if it adds 1.
+    /// Returns what that CPU stores there; `None` if it adds 1.
     fn stores(ticket: u64) -> Option<u64>
         ensures { result ≡ kind.stores ticket };
 

@@ -36,7 +36,7 @@ impl<E, B> Model for Slot<E, B> {
 impl<E: Drop, B: Drop> Slot<E, B> {
     ghost use Rattle.table_machine.specs.Rule.{fresh_home};
 
-    /// A slot with this block, which no section left there.
+    /// Returns a slot with this block, which no section left there.
     pub(crate) fn new(block: B) -> Slot<E, B>
         ensures { result ≡ fresh_home block }
     {
@@ -49,7 +49,7 @@ impl<E: Drop, B: Drop> Slot<E, B> {
         }
     }
 
-    /// The contents of the slot.
+    /// Returns the contents of the slot.
     pub(crate) fn into_home(self) -> Home<E, B>
         ensures { result ≡ self }
     {

@@ -1,4 +1,5 @@
--- The layers viewed as the step table: the table's name of each section, its block and its result.
+-- The layers viewed as the step table (abstraction functions): the table's name of each section,
+-- its block and its result.
 use Rattle.std.specs.Prelude.{◌≡◌, ℕ}
 use Rattle.{event_log.specs.{declared.{entries.Kind.Kind, ids.Tid.Tid}, Messages.Message}, layer_traits.specs.declared.locked.QEdit.TheVariants.Acquire}
 use Rattle.layer_traits.specs.declared.locked.{QEdit.TheVariants.{Inside, Release}, QOut.QOut, Side.{Side, TheVariants.{Receivers, Senders}}}

@@ -8,8 +8,8 @@ use crate::systems::System;
 use event_log::CpuId;
 use layer_traits::{CallLayer, IpcLaw, Owned, Reason};
 
-/// Whether a CPU of this part has no section under way, no running or ready thread, and an empty
-/// hand.
+/// Returns whether a CPU of this part has no section under way, no running or ready thread, and an
+/// empty hand.
 fn rests<I: CallLayer<IpcLaw>>(part: &I) -> bool
     ensures { result ≡ rests (I.is_inside part.now) (threads_in (I.own part.now)) }
 {
@@ -22,9 +22,9 @@ where
 {
     ghost use Rattle.cpu.specs.Calm.{TracesFit, calm_in};
 
-    /// Whether `cpu`, which must exist, is calm. A halted CPU is calm if each of its threads has
-    /// ended. Any other is calm if it has no section under way, no running or ready thread, and an
-    /// empty hand. A system is quiet if each CPU is calm and no thread is pending.
+    /// Returns whether `cpu`, which must exist, is calm. A halted CPU is calm if each of its
+    /// threads has ended. Any other is calm if it has no section under way, no running or ready
+    /// thread, and an empty hand. A system is quiet if each CPU is calm and no thread is pending.
     ///
     /// Requires: the system has a CPU of this number.
     pub(super) fn is_calm(&self, cpu: CpuId) -> bool
@@ -38,7 +38,8 @@ where
         }
     }
 
-    /// A law of every system: no CPU's trace has more entries than its room. It computes nothing.
+    /// Law, of every system: no CPU's trace has more entries than its room. The function computes
+    /// nothing.
     pub fn traces_fit(&self)
         ensures { TracesFit self.now }
     {

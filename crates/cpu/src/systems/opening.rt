@@ -14,8 +14,8 @@ use layer_traits::{CallLayer, IpcLaw, Owned};
 use std::alloc::Global;
 
 impl<I: CallLayer<IpcLaw>> Cpu<I> {
-    /// A CPU before its first step, with the guests of its home threads, in a machine of threads of
-    /// these home CPUs and of so many buffers. Its trace has room for `limit` entries.
+    /// Returns a CPU before its first step, with the guests of its home threads. Its machine has
+    /// threads of these home CPUs and so many buffers. Its trace has room for `limit` entries.
     ///
     /// Requires: there are at most [`THREADS`](event_log::THREADS) homes.
     ///
@@ -56,7 +56,7 @@ fn put_cpu<I: CallLayer<IpcLaw> + Drop>(cpus: &mut Vec<Cpu<I>>, cpu: Cpu<I>)
     cpus.push(cpu).unwrap();
 }
 
-/// The CPUs of a machine before their first step, one for each table of guests.
+/// Returns the CPUs of a machine before their first step, one for each table of guests.
 fn cpus_at_boot<I: CallLayer<IpcLaw> + Drop>(
     alloc: Global,
     homes: &[CpuId],
@@ -94,10 +94,10 @@ where
     ghost use Rattle.cpu.specs.{Sound.{BootsByTable, SoundByTable}, Observed.ObservedByTable, Systems.IsSystem, Tables.IsTabled};
     ghost use Rattle.layer_traits.specs.Views.Openings.{AreOpenable};
 
-    /// A system before its first step: buffers of these capacities, threads of these home CPUs, and
-    /// one CPU for each table of guests. Each trace has room for `limit` entries, and the system
-    /// has room for `room` steps. Each CPU's threads are ready by rising number, and every buffer
-    /// is empty. All memory is allocated here.
+    /// Returns a system before its first step: buffers of these capacities, threads of these home
+    /// CPUs, and one CPU for each table of guests. Each trace has room for `limit` entries, and the
+    /// system has room for `room` steps. Each CPU's threads are ready by rising number, and every
+    /// buffer is empty. All memory is allocated here.
     ///
     /// Requires: there are 1 to `CPUS` tables. There are at most `BUFFERS` buffers, each of
     /// capacity 1 to `CAPACITY`. There are at most `THREADS` threads, and each home is one of the
@@ -140,7 +140,7 @@ where
         Ok(System::assembled(machine, cpus, homes.len(), room as u64))
     }
 
-    /// The system of a machine and its CPUs, before its first step.
+    /// Returns the system of a machine and its CPUs, before its first step.
     fn assembled(machine: I::Machine, cpus: Vec<Cpu<I>>, threads: usize, room: u64) -> System<I>
         requires { IsSystem (λ c. I.Fits c.part machine × (I.cpu_of c.part ≡ c.number)
             × IsCpu (homes_in (I.opening machine)) (length (caps_in (I.opening machine))) (I.seen machine) (threads_in (I.own c.part))

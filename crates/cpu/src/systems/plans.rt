@@ -11,7 +11,7 @@ use event_log::{CpuId, NoMemory, THREADS, Tid};
 use layer_traits::Owned;
 use std::alloc::Global;
 
-/// The home CPU of each thread of a plan.
+/// Returns the home CPU of each thread of a plan.
 pub fn homes_of(boot: &Boot) -> ArrayVec<CpuId, THREADS>
     ensures { result.items ≡ homes_for boot.now }
 {
@@ -22,8 +22,8 @@ pub fn homes_of(boot: &Boot) -> ArrayVec<CpuId, THREADS>
     homes
 }
 
-/// What a CPU's table has at the number of a thread, which must exist: a new guest if the CPU is
-/// the thread's home.
+/// Returns what a CPU's table has at the number of a thread, which must exist: a new guest if the
+/// CPU is the thread's home.
 fn guest_at(
     alloc: Global,
     boot: &Boot,
@@ -41,7 +41,7 @@ fn guest_at(
     Ok(Some(Guest::new(program)))
 }
 
-/// The guests of a CPU of a plan.
+/// Returns the guests of a CPU of a plan.
 ///
 /// Errors: `NoMemory` if an allocation failed. Then nothing was made, and the plan is as it was.
 pub fn guests_of(alloc: Global, boot: &Boot, number: CpuId) -> Result<Vec<Option<Guest>>, NoMemory>
@@ -55,7 +55,7 @@ pub fn guests_of(alloc: Global, boot: &Boot, number: CpuId) -> Result<Vec<Option
     Ok(guests)
 }
 
-/// The guests of each CPU of a plan.
+/// Returns the guests of each CPU of a plan.
 fn tables_of(alloc: Global, boot: &Boot) -> Result<Vec<Vec<Option<Guest>>>, NoMemory>
     ensures { IfOk result (λ tables. map (λ table. table.items) tables.items ≡ tables_for boot.now) }
 {
@@ -74,8 +74,8 @@ where
     ghost use Rattle.cpu.specs.{Claims.{FollowPrograms, HasOneOrder, MovesAgree, StandsOnce, StayHome}, Sound.{BootsByTable, IsSetupFor, SoundByTable}};
     ghost use Rattle.cpu.specs.{Sound.setup_for, Observed.ObservedByTable};
 
-    /// The system of a plan before its first step, with room for `room` steps. Each CPU's threads
-    /// are ready by rising number, and every buffer is empty. All memory is allocated here.
+    /// Returns the system of a plan before its first step, with room for `room` steps. Each CPU's
+    /// threads are ready by rising number, and every buffer is empty. All memory is allocated here.
     ///
     /// Errors: `NoMemory` if an allocation failed. Then nothing was made, and the plan is as it
     /// was.

@@ -13,7 +13,7 @@ where
     ghost use Rattle.{event_log.specs.declared.ids.CpuId.CpuId, layer_traits.specs.Threads.Places.{IsPending, where_is}, cpu.specs.Calm.AllQueuesEmpty};
     ghost use Rattle.cpu.specs.{Calm.{IsQuiet, calm_in}, Sound.IsSetupFor, Systems.whole_of, Table.Setups.Setup, Observed.IsStill, Wakeups.Quiet.IsQuietTable};
 
-    /// Whether the system is quiet (quiescent):
+    /// Returns whether the system is quiet (quiescent):
     ///
     /// - Each CPU that is not halted has no running or ready thread, an empty hand and no section
     ///   under way.
@@ -31,7 +31,7 @@ where
         self.rests()
     }
 
-    /// Whether each CPU is calm and all pending queues are empty.
+    /// Returns whether each CPU is calm and all pending queues are empty.
     fn rests(&self) -> bool
         ensures { result ≡ true ↔ IsQuiet self.now }
     {
@@ -41,7 +41,7 @@ where
         self.nobody_pends()
     }
 
-    /// Whether each CPU is calm.
+    /// Returns whether each CPU is calm.
     fn are_calm(&self) -> bool
         ensures { result ≡ true ↔ ((c : CpuId) → c.0 < length self.now.cpus → calm_in c self.now ≡ true) }
     {
@@ -53,7 +53,7 @@ where
         true
     }
 
-    /// Whether all pending queues are empty.
+    /// Returns whether all pending queues are empty.
     fn nobody_pends(&self) -> bool
         ensures { result ≡ true ↔ AllQueuesEmpty self.now }
     {
@@ -67,7 +67,7 @@ where
         true
     }
 
-    /// Whether `thread`, which must exist, is in a pending queue.
+    /// Returns whether `thread`, which must exist, is in a pending queue.
     fn pends(&self, thread: Tid) -> bool
         requires { thread.0 < length self.now.homes }
         ensures { result ≡ true ↔ ((d : CpuId) × (where_is self.now.homes self.now.moves thread ≡ IsPending d)) }
