@@ -1,14 +1,14 @@
 #!/usr/bin/env bash
-# How a step's cost grows with the system: instructions a step (callgrind) of `mctower run`, from 1 to 16 CPUs and from 1 to 256 threads,
-# and the peak of memory of full traces. Each number is the difference of two whole runs of which one takes 65,536 steps more, so opening
-# is left out; what gathers and writes entries is in. It takes some minutes, and other work disturbs no count.
+# Measures how a step's cost grows with the system: instructions a step (callgrind) of `mctower run`, from 1 to 16 CPUs and from 1 to 256 threads, and
+# the peak of memory of full traces. Each number is the difference of two whole runs of which one takes 65,536 steps more, so opening is left out; what
+# gathers and writes entries is in. It takes some minutes, and other work does not disturb the counts.
 # Build first: (cd crates/mctower && rt run -- count --cpus 1 --times 1).
 #
 #   bench/grow.sh [PROGRAM]
 #
-# The kinds of steps: `calls`, where each thread sends, receives and yields in turn, at a buffer that is its CPU's alone; `yields`, where
-# each only yields; `idle`, where all wait at an empty buffer and the CPUs look for who is sent home; `last`, where the steps are all of a
-# CPU whose one thread has the last number, and waits; `ended`, where all threads have ended and no step is taken any more.
+# The kinds of steps: `calls`, where each thread sends, receives and yields in turn, at a buffer that only its CPU uses; `yields`, where each thread only
+# yields; `idle`, where all wait at an empty buffer and the CPUs poll their pending queues; `last`, where all steps are of one CPU, whose one thread has the
+# last number and waits; `ended`, where all threads have ended and no step is taken.
 if [ "${1:-}" = --help ]; then sed -n '2,/^[^#]/ s/^# \{0,1\}//p' "$0"; exit; fi
 set -eu
 export LC_ALL=C

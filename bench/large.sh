@@ -1,6 +1,6 @@
 #!/usr/bin/env bash
-# Large inputs: prints for each its size, the answer's first line, processor seconds, and the peak of memory beside the size. Each stands twice,
-# ten times as large the second time, so that a cost that is not in proportion shows.
+# Measures large inputs: prints for each its size, the first line of the result, processor seconds, and the peak of memory next to the size. Each input
+# runs twice, ten times as large the second time, so that a cost that is not proportional shows.
 #
 #   bench/large.sh [PROGRAM]
 if [ "${1:-}" = --help ]; then sed -n '2,/^[^#]/ s/^# \{0,1\}//p' "$0"; exit; fi

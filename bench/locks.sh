@@ -1,8 +1,8 @@
 #!/usr/bin/env bash
-# Measures `count` behind both locks in 2, 4 and 8 threads, beside one another and beside plain Rust locks of the same kind
-# (plain_count.rs): whole commands of 1,000 sections a thread, the four by turns. Prints for each number of threads the medians,
-# the ratio of each plain lock's median to ours (1 is the plain program's rate, below 1 is slower), and that of the ticket lock's
-# median to the grant lock's, of ours and of the plain ones. It takes two minutes at most; the machine should be quiet.
+# Measures `count` with both locks in 2, 4 and 8 threads, compared with each other and with plain Rust locks of the same kind (plain_count.rs): it
+# alternates the four whole commands of 1,000 sections a thread. Prints for each number of threads the medians, the ratio of each plain lock's median to
+# ours (1 is the plain program's rate, below 1 is slower), and that of the ticket lock's median to the grant lock's, of ours and of the plain ones. It
+# takes two minutes at most; the machine should be quiet.
 # Build first: (cd crates/mctower && rt run -- count --cpus 1 --times 1).
 #
 #   bench/locks.sh [TURNS]

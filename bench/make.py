@@ -1,5 +1,5 @@
 #!/usr/bin/env python3
-"""Writes one of the inputs that are measured: a plan, a schedule or a trace text.
+"""Writes one of the measured inputs: a plan, a schedule or a trace.
 
     bench/make.py plan [KIND]      half of the threads send, half receive, without end
     bench/make.py schedule [KIND]  the steps that are measured on that plan
@@ -7,10 +7,10 @@
 
 The kinds of plans and their schedules:
 
-    misses    8 CPUs, 64 threads, 16 buffers. Each buffer's threads live on several CPUs, whose 128 steps end inside sections, so that nearly each
-              step is a look that misses; 1,048,576 steps. It is meant where no kind is named
-    through   the same CPUs, each with two buffers of its own, so that messages get through
-    across    16 CPUs, 256 threads, 16 buffers, whose threads live on several CPUs; 1,048,576 steps, 128 at a time
+    misses    8 CPUs, 64 threads, 16 buffers. Each buffer's threads are on several CPUs, whose 128 steps end inside sections, so that nearly each
+              step is a failed poll; 1,048,576 steps. This is the default
+    through   the same CPUs, each with two buffers that no other CPU uses, so that messages get through
+    across    16 CPUs, 256 threads, 16 buffers, whose threads are on several CPUs; 1,048,576 steps, 128 at a time
     turns     1 CPU, where one thread sends and one receives through a buffer of one place; 1,048,576 steps
     singly    the plan of through, and 65,520 steps, each on another CPU than the one before
     once      the plan of misses, and one step

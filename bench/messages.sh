@@ -1,15 +1,14 @@
 #!/usr/bin/env bash
-# Measures how many messages `mctower threads` moves between CPUs, beside plain_threads.rs, which does the same sections in threads of its
-# own and writes the same text, with manners (manners.rs) and without. Whole commands, by turns (turns.py). First through one buffer
-# between two CPUs and through four buffers on eight, also beside messages.rs, with a Mutex and two Condvars for each buffer and no text.
+# Measures how many messages `mctower threads` moves between CPUs, compared with plain_threads.rs, which does the same sections in its own threads and
+# writes the same text, with and without backoff (manners.rs). It alternates whole commands (turns.py). First through one buffer between two CPUs and
+# through four buffers on eight, also compared with messages.rs, with a Mutex and two Condvars for each buffer and no text.
 #
 #   bench/messages.sh [--patterns] [MESSAGES] [CAPACITY] [LOCK] [TURNS]
 #
-# MESSAGES go through each buffer, at most 32,768 (5,000 where nothing is said); a buffer holds CAPACITY (32). LOCK is the plan's key,
-# `ticket` or `grant` (grant). With --patterns it measures, on two processors and on one: a pair, a pair with both threads at home on one
-# CPU, a ping-pong of two buffers, a pipe of three CPUs, two senders and two receivers on four CPUs at one buffer, and four pairs on eight
-# CPUs and on four; a pair and four pairs through buffers of one place too. It takes some minutes. Threads that wait for each other are
-# measured on a quiet machine, or ahead of all other work: chrt --rr 1 bench/messages.sh.
+# MESSAGES go through each buffer, at most 32,768 (default: 5,000); a buffer holds CAPACITY (default: 32). LOCK is the plan's key, `ticket` or `grant`
+# (default: grant). With --patterns it measures, on two processors and on one: a pair, a pair with one home CPU, a ping-pong of two buffers, a pipe of
+# three CPUs, two senders and two receivers on four CPUs at one buffer, and four pairs on eight CPUs and on four; a pair and four pairs through buffers of
+# one place too. It takes some minutes. Measure threads that wait for each other on a quiet machine, or with priority: chrt --rr 1 bench/messages.sh.
 # Build first: (cd crates/mctower && rt run -- count --cpus 1 --times 1).
 if [ "${1:-}" = --help ]; then sed -n '2,/^[^#]/ s/^# \{0,1\}//p' "$0"; exit; fi
 set -eu

@@ -1,7 +1,6 @@
 #!/usr/bin/env bash
-# Measures the proved program beside the plain ones in bench/, whole commands by turns (turns.py), and prints of each
-# measurement the medians, the ratios (the plain program's time divided by ours), and the peak memory of both. It takes no
-# argument and some three minutes; the machine should be quiet.
+# Measures the proved program against the plain ones in bench/: alternates whole commands (turns.py), and prints of each measurement the medians, the
+# ratios (the plain program's time divided by ours), and the peak memory of both. It takes no argument and about three minutes; the machine should be quiet.
 # Build first: (cd crates/mctower && rt run -- count --cpus 1 --times 1).
 if [ "${1:-}" = --help ]; then sed -n '2,/^[^#]/ s/^# \{0,1\}//p' "$0"; exit; fi
 set -eu

@@ -1,13 +1,13 @@
 #!/usr/bin/env bash
-# Counts the instructions (callgrind) of `mctower run` on the plans and schedules of make.py, over grant words, beside plain_tower.rs, which
-# stores the same log of events. Prints for each kind the ratio of the whole commands, and that of the steps alone: without what one step of
-# the same plan takes, which is opening, and without what gathers and writes the text. Beside them stands the ratio to the plain program where
-# it takes a look that misses for all steps of its CPU that follow (--cfg stretch). Then it measures each kind by the clock, on one processor
-# (turns.py), *misses* and *through* behind either lock. Counts take a minute, and other work disturbs none; for times the machine should be
-# quiet, or: chrt --rr 1 bench/steps.sh.
+# Counts the instructions (callgrind) of `mctower run` on the plans and schedules of make.py, over grant words, compared with plain_tower.rs, which
+# stores the same log of events. Prints for each kind the ratio of the whole commands, and that of only the steps: without what one step of the same
+# plan takes, which is opening, and without what gathers and writes the text. Next to them is the ratio to the plain program in the build where a
+# failed poll stands for all following steps of its CPU (--cfg stretch). Then it measures the wall-clock time of each kind, on one processor (turns.py),
+# *misses* and *through* with both locks. Counts take a minute, and other work does not disturb them; for times the machine should be quiet, or use
+# priority: chrt --rr 1 bench/steps.sh.
 # Build first: (cd crates/mctower && rt run -- count --cpus 1 --times 1).
 #
-#   bench/steps.sh [TURNS]   how often each time is measured, 21 if left out; 0: counts alone
+#   bench/steps.sh [TURNS]   how often each time is measured (default: 21); 0: only counts
 if [ "${1:-}" = --help ]; then sed -n '2,/^[^#]/ s/^# \{0,1\}//p' "$0"; exit; fi
 set -eu
 cd "$(dirname "$0")"

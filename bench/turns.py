@@ -1,12 +1,12 @@
 #!/usr/bin/env python3
-"""Runs commands by turns on one input, and prints what a turn of each takes.
+"""Runs commands alternately on one input, and prints the time of each.
 
     bench/turns.py [--turns N] [--seconds S] [--cores LIST] INPUT NAME WORD.. [-- NAME WORD..]
 
-For each command: the median by the clock and of processors (the system's time too) in milliseconds, each with its quartiles; then, of one
-more run, page faults and the peak of memory. Behind the last one stand the ratios of each other one's medians to its own (1 is the other's rate, below 1 is
-slower). It ends after so many turns (21) or so many seconds (30). With --cores all run on these processors alone, as `0` or `0,1`. What is
-measured wants a quiet machine, or to go ahead of all other work: chrt --rr 1 bench/turns.py ..
+For each command it prints the median of wall-clock time and of processor time (the system's included) in milliseconds, each with its quartiles; then, of one
+more run, page faults and the peak of memory. After the last command it prints the ratios of each other command's medians to the last one's: 1 is the other's
+rate, below 1 is slower. It ends after N turns (default: 21) or S seconds (default: 30). With --cores all run only on these processors, as `0` or `0,1`. Measure
+on a quiet machine, or with priority: chrt --rr 1 bench/turns.py ..
 """
 import argparse
 import itertools

@@ -1,18 +1,16 @@
 #!/usr/bin/env python3
-"""Tries the book: runs every command of docs/book and compares what comes with what the page says, byte for byte; looks up each file,
-public name and clause that a page names, and each name of the repository in any other page of the tree; holds the plan and the output that
-README.md shows against the files, and its version against that of CHANGELOG.md and of the help; tries the patches of docs; draws each
-picture again; holds plans/kernel.py against what each plan is expected to print; builds and runs, with no proof, the crates that a page
-writes (`rt try`). .ci/run calls it; it takes two minutes of processor time, most of it to build.
+"""Tests the lessons and the names on all pages: runs every command of docs/book and compares its output with the page, byte for byte; searches the tree for
+each file, public name and clause that a page names; compares the plan and the output in README.md with the files, and its version with CHANGELOG.md and the
+help; applies the patches of docs; draws each picture again; compares plans/kernel.py with the expected output of each plan; builds and runs, without proof,
+the crates that a page writes (`rt try`). .ci/run calls it; it takes two minutes of processor time, most of it for builds.
 
-Of a lesson's run of a kernel with a mistake it looks whether each law that the page names breaks in the step that it says, and in none before.
+In a lesson's run of a kernel with a mistake, each law that the page names must break in the step that the page says, and in no earlier one.
 
     tests/book.py [--write] [PROGRAM]
-    tests/book.py --names               looks up and holds, and runs nothing: it needs no program
+    tests/book.py --names               only compares names and texts: it runs nothing and needs no program
 
-A command is a line `$ ..` of a block marked `console`; the lines beneath it are what it prints, standard output and standard error
-together. Where a page is changed, --write puts what comes into the page and draws the pictures, to be read before it is kept.
-The last line is 'book: N passed, M failed'.
+A command is a line `$ ..` of a block marked `console`; the lines after it are its output, standard output and standard error together. After a change of a
+page, --write puts the output into the page and draws the pictures; read them before you commit. The last line is 'book: N passed, M failed'.
 """
 import argparse
 import os

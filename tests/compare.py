@@ -1,14 +1,14 @@
 #!/usr/bin/env python3
-"""Holds the built program beside all programs that say the same without a line of its code, over more cases than the gate does.
+"""Compares the built program with all independent programs, which share no line of its code, over more cases than the gate does.
 
     tests/compare.py [--program PROGRAM]                               all ten comparisons; it takes some minutes
-    tests/compare.py [--program PROGRAM] run [COUNT] [FIRST] [large]   random plans alone, beside the plain program of the step table
+    tests/compare.py [--program PROGRAM] run [COUNT] [FIRST] [large]   only random plans, with the plain program of the step table
 
-All: 2,000 random plans and 500 up to the limits beside tests/plain_tower.rs, 10,000 damaged texts and 4,000 damaged plans beside judges of
-the formats, random plans in threads, and quiet ones. First it holds these programs beside one another. The last line says whether all were equal.
+All: 2,000 random plans and 500 up to the limits with tests/plain_tower.rs, 10,000 damaged traces and 4,000 damaged plans with judges of the formats,
+random plans in threads, and quiet ones. First it compares these programs with each other. The last line says whether all were equal.
 
-Random plans: COUNT of them (500), from the seed FIRST (1) on; with `large` up to the limits (16 CPUs, 256 threads), under schedules of up to
-20,000 steps. Text, state lines and status are compared; the last line counts what was equal.
+Random plans: COUNT of them (default: 500), from the seed FIRST (default: 1) on; with `large` up to the limits (16 CPUs, 256 threads), under schedules of up to
+20,000 steps. It compares traces, state lines and statuses; the last line counts the equal ones.
 Build first: (cd crates/mctower && rt run -- count --cpus 1 --times 1).
 """
 import argparse

@@ -1,6 +1,6 @@
 #!/bin/sh
-# What a test of the gate can't hold: a hundred counts of eight threads with each lock, which may be slow
-# beside other work, and a count in which each start of a thread is refused in turn. Prints what was seen.
+# Runs what is too slow for the gate next to other work: a hundred counts of eight threads with each lock, and a count in which each start of a thread
+# fails in turn. Prints what it found.
 #
 #   (cd crates/mctower && rt run -- count --cpus 1 --times 1) && tests/count_often.sh
 if [ "${1:-}" = --help ]; then sed -n '2,/^[^#]/ s/^# \{0,1\}//p' "$0"; exit; fi

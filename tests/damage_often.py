@@ -1,14 +1,13 @@
 #!/usr/bin/env python3
-"""Damaged trace texts, plans and schedules: what the built program answers beside judges of their own, written from the formats alone.
+"""Compares the built program, over damaged traces, plans and schedules, with judges that were written only from the formats.
 
     tests/damage_often.py PROGRAM [HOW_MANY] [SEED] [texts | plans]
 
-A text is a run of first-in first-out buffers, perhaps with closes and with messages of several words, near which it is damaged (entries
-swapped, dropped, turned, counted anew, messages with a word more or less) or near its grammar (a byte, a piece, a number, a comma, a
-line); a plan, with or without the key of its lock, with closes, targets and messages of words among its instructions, and a schedule
-near theirs. The cases are texts and plans by turns, or those that are named alone: PROGRAM may be
-the built tests/plain_check.rs for texts. Prints each case whose answer differs; the last line counts them. TOML is read by Python's own
-tomllib, which Python 3.11 and later have.
+A text is a legal history of FIFO buffers, with or without closes and messages of several words. It is damaged in its entries (swapped, dropped, reversed,
+counted anew, messages with a word more or less) or in its grammar (a byte, a word, a number, a comma, a line). A plan has or lacks the key of its
+lock, and has closes, targets and messages of words among its instructions; it and a schedule are damaged in the same way. The cases alternate between texts
+and plans, or are only of the kind that is named. For texts PROGRAM may be the built tests/plain_check.rs. It prints each case whose result differs; the last
+line counts them. Python's tomllib reads TOML, so this needs Python 3.11 or later.
 """
 import argparse
 import random

@@ -1,14 +1,12 @@
 #!/usr/bin/env bash
-# Holds each build of mctower against tests/plain_tower.rs, a plain program of the step table, after every step: over the plans of
-# plans/ and tests/rows/ with either lock, and over 200 random ones of at most 200 steps (the same ones each time), every other of
-# which names ticket locks. From step to step the order of the calls has to go on as there, by at most one of the CPU that stepped.
-# Each text must get a yes of `check`. Then runs 50 random plans until they are quiet, and looks whether anybody could go on.
-# .ci/run calls it after rt ci.
+# Compares each build of mctower with tests/plain_tower.rs, a plain program of the step table, after every step: over the plans of plans/ and
+# tests/rows/ with either lock, and over 200 random ones of at most 200 steps (the same ones each time), every other of which names ticket locks.
+# From step to step the order of the calls must be extended as there, by at most one call, of the CPU that stepped. `check` must print yes for each
+# trace. Then it runs 50 random plans until they are quiet, and checks that no thread could make progress. .ci/run calls it after rt ci.
 #
 #   tests/every-step.sh [PROGRAM..]
 #
-# Without a name it runs each build of mctower that `rt ci` or `rt run` left. It wants rustc: where there is none it compares nothing,
-# says so and fails.
+# The default is each build of mctower that `rt ci` or `rt run` left. It needs rustc: without it, it compares nothing, says so and fails.
 if [ "${1:-}" = --help ]; then sed -n '2,/^[^#]/ s/^# \{0,1\}//p' "$0"; exit; fi
 set -eu
 cd "$(dirname "$0")/.."

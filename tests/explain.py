@@ -1,13 +1,13 @@
 #!/usr/bin/env python3
-"""Holds plans/explain.py and plans/kernel.py against the built program, over plans, schedules and trace texts that are right or near that.
+"""Compares plans/explain.py and plans/kernel.py with the built program, over plans, schedules and traces that are right or nearly right.
 
     tests/explain.py [--many] [PROGRAM]
 
-On each the first line and the exit status of explain.py have to be the program's; kernel.py has to refuse what the program refuses, by the
-same first line and status, and else to print the same. Then each mistake of tests/mistakes.py is told as it says there; kernel.py with any mistake
-runs to its end; each schedule of --rounds leaves the program quiet; and run.sh and picture.py say what explain.py says. The choices
-are the same each time. --many makes 6,000 plans, 3,000 schedules and 3,000 texts in place of 500 each, which takes some minutes. The last line counts
-the comparisons; the status is 1 if one differs.
+The first line and the exit status of explain.py must be the program's. kernel.py must reject what the program rejects, with the same first line and status,
+and otherwise print the same. For each mistake of tests/mistakes.py, explain.py must print the explanation in that table. kernel.py with any mistake must run to
+its end; each schedule of --rounds must leave the program quiet; run.sh and picture.py must print what explain.py prints. The random choices are the same each
+time. --many takes 6,000 plans, 3,000 schedules and 3,000 texts instead of 500 each, which takes some minutes. The last line counts the comparisons; the
+status is 1 if one differs.
 """
 import io
 import os

@@ -1,13 +1,13 @@
 #!/usr/bin/env bash
-# Runs the built program with one thing refused, at every point of a whole run of each command: every single allocation, all from one on, every start of a
-# thread, all from one on, standard output cut behind every byte, standard input that fails behind every byte; and with slow starts and wakes of threads.
-# Each outcome has to be the one of the unhindered run, or the refusal that is promised for it with just what may be out. Where worker
-# threads race each other two runs may differ: there it is right where `check` says yes to the text, all messages went through and each
-# CPU has its line. It takes about a minute; .ci/run calls it after rt ci.
+# Runs the built program with one failure, at every point of a whole run of each command: every single allocation, all from one on, every start of a
+# thread, all from one on, standard output cut after every byte, standard input that fails after every byte; and with slow starts and wake-ups of threads.
+# Each outcome must be that of the run without failures, or the error that is promised for it, with exactly the output that is then allowed. If worker
+# threads race, two runs may differ: an outcome is then right if `check` prints yes for the trace, all messages got through and each CPU has its line. It
+# takes about a minute; .ci/run calls it after rt ci.
 #
 #   tests/faults.sh [PROGRAM]
 #
-# It wants the built program, and rustc. The last line is 'faults: N outcomes, M wrong'.
+# It needs the built program, and rustc. The last line is 'faults: N outcomes, M wrong'.
 if [ "${1:-}" = --help ]; then sed -n '2,/^[^#]/ s/^# \{0,1\}//p' "$0"; exit; fi
 set -u
 export LC_ALL=C

@@ -1,7 +1,7 @@
 #!/usr/bin/env python3
-"""Tries .ci/run in a folder where each of its steps is a stub that takes a second or less: which end well, which fail, are killed, run beside others or
-alone or look at nothing, which tools and programs are missing, and what it then says. docs/GATE.md has to name each script that it runs, and no other. .ci/run
-calls it; it takes seconds. The last line is 'gate: N passed, M failed'.
+"""Runs .ci/run in a folder where each of its steps is a stub that takes a second or less, and checks its output: for steps that pass, fail, are killed, run in
+parallel or one at a time, or have nothing to test, and for missing tools and programs. docs/GATE.md must list each script that .ci/run runs, and no other.
+.ci/run calls it; it takes seconds. The last line is 'gate: N passed, M failed'.
 
     tests/gate.py
 """

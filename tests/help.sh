@@ -1,5 +1,5 @@
 #!/usr/bin/env bash
-# Asks each script of the tree for --help: it has to tell, on standard output and in one screen, what it does, with status 0, and do nothing else.
+# Runs each script of the tree with --help: it must print, on standard output and in one screen, what it does, end with status 0, and do nothing else.
 # .ci/run calls it; it takes seconds. The last line is 'help: N passed, M failed'.
 #
 #   tests/help.sh

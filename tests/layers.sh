@@ -1,14 +1,14 @@
 #!/usr/bin/env bash
-# Runs the tests of the layers, which stand in tests/layers, with no proof: it lays them onto a copy of the tree as a crate of their own
-# (`layer_tests`, with the line of tests/layers/stands-on.txt), builds that and runs each test in a process of its own. .ci/run calls it; it takes
-# one and a half minutes of processor time, most of it to compile the copy.
+# Runs the tests of the layers, tests/layers, without proof: it adds them to a copy of the tree as a separate crate (`layer_tests`, with the line of
+# tests/layers/stands-on.txt), builds that, and runs each test in its own process. .ci/run calls it; it takes one and a half minutes of processor time,
+# most of it to compile the copy.
 #
-#   tests/layers.sh            prints each test, and of a failed one the file and line, and what was seen (left) and wanted (right)
-#   tests/layers.sh --format   lays out the files of tests/layers as `rt fmt` lays out a crate's, and runs nothing
-#   tests/layers.sh --lay FOLDER MODULE..   copies the tree into FOLDER, with a crate of these modules alone, and runs nothing
+#   tests/layers.sh            prints each test, and of a failed one the file and line, what was seen (left) and expected (right)
+#   tests/layers.sh --format   formats the files of tests/layers as `rt fmt` formats those of a crate, and runs nothing
+#   tests/layers.sh --lay FOLDER MODULE..   copies the tree into FOLDER, with a crate of only these modules, and runs nothing
 #
-# Their names end in .rs, since `rt ci` takes a .rt file for a crate's. A test that cannot be built, one that does not end, a file that is not laid
-# out, and a run of no test count as failed. The last line is 'N passed, M failed'.
+# Their names end in .rs, because `rt ci` accepts a .rt file only in a crate. A test that cannot be built, one that does not end, a file that is not
+# formatted, and a run of no test count as failed. The last line is 'N passed, M failed'.
 if [ "${1:-}" = --help ]; then sed -n '2,/^[^#]/ s/^# \{0,1\}//p' "$0"; exit; fi
 set -uo pipefail
 cd "$(dirname "$0")/.."

@@ -1,12 +1,12 @@
 #!/usr/bin/env python3
-"""Tries what shows runs: plans/explore.py, plans/states.py, plans/picture.py, and the script of their pages. .ci/run calls it.
+"""Tests what shows runs: plans/explore.py, plans/states.py, plans/picture.py, and the script of their pages. .ci/run calls it.
 
     tests/look.py [--write] [PROGRAM]
 
-It makes the page of each plan's run and holds each beginning of it beside the proved program; holds reports on all states, the shortest schedules by which each
-mistake breaks a law, and the words of pages against the texts in tests/look; gives pages a program that is not the proved one; finds schedules for what threads
-printed; and looks at colours and sizes. The script of the pages is run by node, without a browser: tests/look_browser.py has a browser's checks, and is
-called where a Chromium is. --write puts what comes into tests/look, to be read before it is kept. The last line is 'look: N passed, M failed'.
+It makes the page of each plan's run and compares each prefix of the run with the proved program. It compares reports on all states, the shortest schedules
+under which each mistake breaks a law, and the words of pages with the texts in tests/look. It gives pages a program that is not the proved one, finds
+schedules for the output of threads, and checks colours and sizes. Node runs the script of the pages, without a browser; if there is a Chromium, it calls
+tests/look_browser.py. --write puts the output into tests/look; read it before you commit. The last line is 'look: N passed, M failed'.
 """
 import itertools
 import json

@@ -1,9 +1,9 @@
 #!/usr/bin/env python3
-"""Tries the pages of plans/explore.py in a real browser: keys, clicks, the slider, links, play, undo, choosing who steps. tests/look.py calls it.
+"""Tests the pages of plans/explore.py in a real browser: keys, clicks, the slider, links, play, undo, choosing the CPU of a step. tests/look.py calls it.
 
-    tests/look_browser.py [FOLDER]      where a folder is named, pictures of the pages are put there
+    tests/look_browser.py [FOLDER]      puts pictures of the pages into FOLDER, if it is given
 
-It needs a Chromium (tests/browser.py), and says so where none is. The last line is 'look_browser: N passed, M failed'.
+It needs a Chromium (tests/browser.py), and says so if there is none. The last line is 'look_browser: N passed, M failed'.
 """
 import subprocess
 import sys

@@ -1,13 +1,12 @@
 #!/usr/bin/env bash
-# Runs each plan of plans/, of tests/rows/ and of tests/long/, whose runs are too long to be looked at after every step, by the command
-# in its first lines, over locks with grant words, as it names none, and over ticket locks, and compares what comes on standard output
-# and then on standard error with the file of its name in expected/ beside it, which tests/plain_tower.rs wrote: a plain program of the
-# step table. (`plans/kernel.py PLAN > expected/NAME.txt 2>&1` writes the same.) It takes seconds; .ci/run calls it after rt ci. The last line is
-# 'plans: N passed, M failed'.
+# Runs each plan of plans/, of tests/rows/ and of tests/long/, whose runs are too long to be compared after every step, by the command in its first
+# lines, over grant locks, which are the default, and over ticket locks. It compares standard output and then standard error with the file of its name in
+# expected/ next to it, which tests/plain_tower.rs wrote: a plain program of the step table. (`plans/kernel.py PLAN > expected/NAME.txt 2>&1` writes the
+# same.) It takes seconds; .ci/run calls it after rt ci. The last line is 'plans: N passed, M failed'.
 #
 #   tests/plans.sh [PROGRAM..]
 #
-# Without a name it runs each build of mctower that `rt ci` or `rt run` left.
+# The default is each build of mctower that `rt ci` or `rt run` left.
 if [ "${1:-}" = --help ]; then sed -n '2,/^[^#]/ s/^# \{0,1\}//p' "$0"; exit; fi
 set -u
 cd "$(dirname "$0")/.."

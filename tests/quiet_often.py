@@ -1,14 +1,15 @@
 #!/usr/bin/env python3
-"""Runs random plans until they are quiet or the schedule ends, and looks at each quiet one whether
-anybody could go on: a plain reading of the plan, the trace text and the places, without any of the
-kernel's rules.
+"""Runs random plans until they are quiet (quiescent) or the schedule ends, and checks for each quiet one
+whether a thread could make progress. It reads only the plan, the trace and the places, and uses none
+of the kernel's rules.
 
     quiet_often.py MCTOWER FIRST COUNT
 
-Each thread's program is followed along its entries. In a quiet system a thread has ended where its
-program has; any other stands at a call that its buffer does not allow, and waits there: a send or a
-receive at a buffer that nobody has closed. The last line says how many were quiet; the status is 1
-where one of them was wrong."""
+It follows each thread's program along its entries. In a quiet system a thread has ended if its program
+has. Any other thread is at a call that its buffer does not allow, and waits there: a send or a receive
+at a buffer that is not closed. The last line counts the quiet systems; the status is 1 if one of them
+was wrong.
+"""
 import argparse
 import collections
 import itertools

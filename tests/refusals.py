@@ -1,13 +1,13 @@
 #!/usr/bin/env python3
-"""Runs each test of tests/layers/src/refusals.rs with each allocation and each start of a thread refused, alone and with all later ones. tests/refuse.sh
-calls it with the program that `rt try --test --fail-alloc NUMBER` builds of them, and with the library that refuses starts.
+"""Runs each test of tests/layers/src/refusals.rs once for each allocation and each start of a thread, which fails: first that one only, then that one and
+all later ones. tests/refuse.sh calls it with the program that `rt try --test --fail-alloc NUMBER` builds, and with the library that fails starts.
 
-    tests/refusals.py --never             a NUMBER that no test comes to
+    tests/refusals.py --never             prints a NUMBER of allocations that no test reaches
     tests/refusals.py PROGRAM LIBRARY
 
-`rt try` compiles its number into the program, at the two places where memory is asked for. There this script writes other numbers; another jump, where
-all later allocations are refused too; and a trap in the place of a refusal, which tells whether an allocation is asked for at all. Starts are refused by
-tests/refuse.rs. The last line is 'refuse: N tests passed, M runs with something refused'.
+`rt try` compiles its number into the program, at the two places that request memory. This script replaces it there by other numbers. It replaces a jump so
+that all later allocations fail too, and the failure by a trap, which shows whether an allocation is requested at all. tests/refuse.rs fails starts. The
+last line is 'refuse: N tests passed, M runs with something refused'.
 """
 import argparse
 import itertools

@@ -1,7 +1,7 @@
 #!/usr/bin/env python3
 """Runs plans in threads, with each lock, and replays what they print: plans/replay.py finds a schedule for each text and its stops, and the built program
-prints the same text under it, byte for byte, and stops so. A search may find none, of one text in twenty at most. Damaged texts are refused, each by its
-line. .ci/run calls it; it takes seconds.
+prints the same text under it, byte for byte, and stops so. A search may find none, for one text in twenty at most. Damaged texts must be rejected, each with
+its line. .ci/run calls it; it takes seconds.
 
     tests/replay.py [PROGRAM]
 

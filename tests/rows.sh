@@ -1,11 +1,11 @@
 #!/usr/bin/env bash
-# Tries the program with no proof: builds it by `rt try --cases`, and runs each plan and each row behind both locks, and each row of the tables of
-# texts, plans and programs. It is the test of whoever has five minutes, and no gate: nothing is proved, and no wrong body is tried.
+# Tests the program without proofs: builds it with `rt try --cases`, and runs each plan and each row over both locks, and each row of the tables of traces,
+# plans and programs. It takes about five minutes. It is no gate: nothing is proved, and no mutant is tried.
 #
 #   tests/rows.sh [SHARES]
 #
-# The cases are parted into shares, each with a build of its own of 1 GB, which run side by side: as many as there are processors, at most four, unless
-# SHARES says another number. The last line is 'rows: N passed, M failed'.
+# SHARES builds of 1 GB run in parallel, each over its share of the cases. The default is the number of processors, at most four. The last line is
+# 'rows: N passed, M failed'.
 if [ "${1:-}" = --help ]; then sed -n '2,/^[^#]/ s/^# \{0,1\}//p' "$0"; exit; fi
 set -u
 cd "$(dirname "$0")/.."

@@ -1,10 +1,10 @@
 #!/usr/bin/env python3
-"""Runs the built program on the tables of tests/tables: trace texts for `check`, plans that `run` reads or refuses, programs that it reads or refuses,
-and what programs do. The head of each table says what its rows mean. .ci/run calls it; it takes seconds.
+"""Runs the built program on the tables of tests/tables: traces for `check`, plans and programs that `run` accepts or rejects, and what programs do. The head of
+each table says what its rows mean. .ci/run calls it; it takes seconds.
 
     tests/tables.py [PROGRAM..]
 
-Without a name it runs each build of mctower that `rt ci` or `rt run` left. The last line is 'tables: N passed, M failed'.
+The default is each build of mctower that `rt ci` or `rt run` left. The last line is 'tables: N passed, M failed'.
 """
 import json
 import re

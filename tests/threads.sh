@@ -1,10 +1,10 @@
 #!/usr/bin/env bash
-# Runs plans in threads with the built program, each with ticket locks and with grant locks: what is on standard output, what is told of
-# each worker on standard error, and that `check` says yes to the text. It takes seconds; .ci/run calls it after rt ci.
+# Runs plans in threads with the built program, each with ticket locks and with grant locks. It checks standard output, the stop reasons on standard
+# error, and that `check` prints yes for the trace. It takes seconds; .ci/run calls it after rt ci.
 #
 #   tests/threads.sh [PROGRAM..]
 #
-# Without a name it runs each build of mctower that `rt ci` or `rt run` left. The last line is 'threads: N passed, M failed'.
+# The default is each build of mctower that `rt ci` or `rt run` left. The last line is 'threads: N passed, M failed'.
 if [ "${1:-}" = --help ]; then sed -n '2,/^[^#]/ s/^# \{0,1\}//p' "$0"; exit; fi
 set -u
 export LC_ALL=C

@@ -1,15 +1,16 @@
 #!/usr/bin/env python3
-"""Runs random plans in threads, one worker for each CPU, each with one lock and the other in turn, and
-looks at what comes: the status, that `check` says yes to the text, and why each worker stopped.
+"""Runs random plans in threads, with one worker for each CPU and the two locks in turn. It checks the
+exit status, that `check` prints yes for the trace, and the stop reason of each worker.
 
     threads_often.py MCTOWER FIRST COUNT [large]
 
-With the word `large` the plans are up to the limits: up to 16 workers and 256 threads.
+With the word `large` the plans are up to the limits: 16 workers and 256 threads.
 
-On standard error one line tells of each CPU why its worker stopped: with AllEnded only where each
-thread at home there has ended by its program, followed along its entries; with TraceFull only where
-its trace has as many entries as there is room for, or a thread at home begins a call; never with Held.
-The last line says how many ran and how often each stop came; the status is 1 where one was wrong."""
+A line for each CPU, on standard error, has the stop reason of its worker. AllEnded is right only if
+the program of each thread of that home CPU ended, followed along its entries. TraceFull is right only
+if the trace is full, or a thread of that home CPU begins a call. Held is never right. The last line
+counts the runs and each stop reason; the status is 1 if one was wrong.
+"""
 import argparse
 import collections
 import random

@@ -1,12 +1,12 @@
 #!/usr/bin/env python3
-"""Holds two programs of the step table beside one another over random plans: plans/kernel.py and tests/plain_tower.rs, which share
-neither a line nor a language, and none with the tower.
+"""Compares two programs of the step table over random plans: plans/kernel.py and tests/plain_tower.rs, which share no line and no language with each other or
+with the tower.
 
     tests/twins_often.py PLAIN_TOWER [COUNT] [FIRST] [large]
 
-PLAIN_TOWER is the built tests/plain_tower.rs; with the word `large` the plans are up to the limits. Compares trace text and state lines at
-the end of each plan's schedule; the last line counts the plans, those in which a close took effect, those with a message of several words,
-and how often each kind of effect came. The status is 1 where one differs, or where none had a close, or a message of several words.
+PLAIN_TOWER is the built tests/plain_tower.rs; with the word `large` the plans are up to the limits. It compares the trace and the state lines at the end of
+each plan's schedule. The last line counts the plans, those in which a close took effect, those with a message of several words, and the effects of each kind.
+The status is 1 if one differs, or if no plan has a close, or none a message of several words.
 """
 import argparse
 import collections

@@ -1,47 +1,45 @@
 #!/usr/bin/env python3
-"""Tries the wrong bodies of crates/NAME/wrong/*.edit: the prover must refuse each, on the line of the very function that it turns.
+"""Tries the mutants (wrong bodies) of crates/NAME/wrong/*.edit: the prover must reject each, on the line of the very function that it changes.
 
 usage: tests/wrong-bodies.py [--all] [--after-ci] [--minutes N] [--seed WORD] [--jobs N] [--only WORD] [--self-test] [NAME..]
 
-A wrong body (a mutant) is a file in the form of a must-fail edit, with a line before it that names the function, as a check prints it after the
-crate's name:
+A mutant is a file in the form of a must-fail edit, with a line before it that names the function, as a check prints it after the crate's name:
 
     fn: threads::Thread::value
     file: src/threads.rt
     old: self.registers[register.number()]
     new: self.registers[0]
 
-Bodies of different functions are tried in ONE check of a copy of the crate: each round tries all bodies that are open, one a function. A body
-counts as refused only where its own function gets a line `not proved` or `no proof: ..`. Where that line names a callee that is not proved either,
-the body counts only if a goal of its own function is open too: the line names the goal, or an error is in the function's own folder of proofs. A
-failed callee alone does not count: such a body stays open for the next round. After a round that judged none, the first open body is tried alone.
-What is still proved then fails by name. So does an edit that cannot be applied, names no function, or ends in no verdict, as for want of memory.
+Mutants of different functions are tried in ONE check of a copy of the crate: each round tries all that are open, one a function. A mutant counts as
+rejected only if its own function gets a line `not proved` or `no proof: ..`. If that line names a callee that is not proved either, the mutant counts only
+if a goal of its own function is open too: the line names the goal, or an error is in the function's folder of proofs. A failed callee by itself does not
+count: such a mutant stays open for the next round. After a round that judged none, the first open one is tried by itself. A mutant that is still proved
+then fails by name. An edit that cannot be applied, names no function, or ends in no verdict, as for lack of memory, fails too.
 
-An edit that changes or adds a clause, a ghost line or a hint is a BAD EDIT, and so is one with a `prove!` of its own: what it breaks is right as it
-is. A body is weak where no goal is open and a proof file alone no longer fits its shape, as where it names what the edit took away, or where it has
-a loop for which no measure was written: it counts as refused, and is listed once more at the end, since no clause may stand against it.
+An edit that changes or adds a clause, a ghost line, a hint or a `prove!` is a BAD EDIT: the code that it breaks is right as it is. A mutant is weak if no
+goal is open and only a proof file does not fit its shape, as where it names what the edit removed, or if it has a loop without a measure. A weak mutant
+counts as rejected, and is listed again at the end, because perhaps no clause excludes it.
 
-A body that a type refuses does not compile. Its file says so in its first line, with words of the compiler's error:
+A mutant that a type excludes does not compile. Its file says so in its first line, with words of the compiler's error:
 
     refused: field `refused` of struct `NoMemory` is private
 
-Such bodies of one crate are side by side in one check, and again those that another's error hid. One counts as refused only where an error with
-these words is on the very line that it changes. The words have to say that something is private: a name that is spelled wrongly, or a value of
-another type, is refused too, and nothing of the tree is against it. The last lines count them apart.
+Such mutants of one crate are in one check, and again those that another's error hid. One counts as rejected only if an error with these words is on the very
+line that it changes. The words must say that something is private: a misspelled name, or a value of another type, is rejected too, and shows nothing about
+the tree. The last lines count them separately.
 
-Each body that was refused has a line in tests/refused.txt: its name, and a sum of the kit's logic, of the rules by which it was judged, of the
-contracts and definitions of its crate and of all below it, of its function with its own folder of proofs, and of the body itself; a weak one's ends
-in `weak`. Comments do not count, nor how imports are laid out, nor the bodies and proofs of other functions, nor lemmas: what a contract forbids it
-forbids however it is proved. A body whose sum is there is not tried again; --all tries it all the same. Each run without --after-ci writes the
-file, so that whoever changes a crate tries its bodies once and commits the lines; lines of no body go. Where two changes meet, git takes the lines
-of both, and the next run drops those that fit neither. A file with a line of another form fails, and no body is tried.
+Each rejected mutant has a line in tests/refused.txt: its name, and a sum of the kit's logic, of the rules by which it was judged, of the contracts and
+definitions of its crate and of all below it, of its function with that function's folder of proofs, and of the mutant itself; the line of a weak one ends in
+`weak`. Comments, the layout of imports, other functions with their proofs, and lemmas are not in the sum: what a contract forbids does not depend on its
+proof. A mutant whose sum is there is not tried again, except with --all. Each run without --after-ci writes the file, so that an author who changes a crate
+tries its mutants once and commits the lines; lines without a mutant are removed. If two branches meet, git takes the lines of both, and the next run drops
+those that fit neither. A file with a line of another form fails, and no mutant is tried.
 
-A line is a claim, and the gate takes none on trust for good: by --minutes N it tries bodies that the file has, drawn by a seed that the machine
-draws and prints, until they took N minutes of processor time: half of them among lines that the last 30 commits changed. Drawn bodies are tried
-over holes, so that nothing that their functions call is proved again; one that is not refused so is tried whole, and then fails by name. --seed
-draws the same again. --after-ci takes the libraries as `rt ci` left them, takes the crates as proved, and writes nothing; without it the libraries
-are built first, and each function has to be proved as it is. --only tries, of the named crates, the bodies whose file name holds WORD, and writes
-their lines. The last line is 'N passed, M failed'.
+The gate does not trust a line forever. With --minutes N it tries mutants that the file has, drawn by a seed that it chooses and prints, until they took N
+minutes of processor time: half of them among lines that the last 30 commits changed. Drawn mutants are tried over holes, so that nothing that their functions
+call is proved again; one that is not rejected so is tried whole, and then fails by name. --seed draws the same again. --after-ci takes the libraries that
+`rt ci` left, takes the crates as proved, and writes nothing; without it the libraries are built first, and each function must be proved as it is. --only
+tries, of the named crates, the mutants whose file name contains WORD, and writes their lines. The last line is 'N passed, M failed'.
 """
 import argparse
 import os

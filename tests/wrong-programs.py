@@ -1,13 +1,12 @@
 #!/usr/bin/env python3
-"""Gives scripts of the gate a program that is wrong in one thing, and looks whether each sees it.
+"""Gives scripts of the gate a program that is wrong in one thing, and checks that each detects it.
 
     tests/wrong-programs.py [PROGRAM]                    each script with each wrong program of SEES
-    tests/wrong-programs.py --only SCRIPT [PROGRAM]      this script alone, as tests/judge.py; --only may stand again
+    tests/wrong-programs.py --only SCRIPT [PROGRAM]      only this script, as tests/judge.py; --only may be given again
 
-A wrong program is tests/wrong_program.rs under another name: it runs PROGRAM (crates/mctower/out/mctower, if none is named) and changes what it prints, or
-its status. A script sees it if it ends with status 1 and its last line counts what failed. With the same program under the name `right`, which changes
-nothing, each script has to pass. It wants rustc. .ci/run calls it; it takes a minute or two of processor time. The last line is
-'wrong programs: N seen, M not'.
+A wrong program is tests/wrong_program.rs under another name: it runs PROGRAM (default: crates/mctower/out/mctower) and changes its output or its status. A
+script detects it if it ends with status 1 and its last line counts what failed. With the same program under the name `right`, which changes nothing, each
+script must pass. It needs rustc. .ci/run calls it; it takes a minute or two of processor time. The last line is 'wrong programs: N seen, M not'.
 """
 import argparse
 import os

@@ -1,12 +1,12 @@
 #!/usr/bin/env python3
-"""Holds that the modules of crates/*/src have no cycle but those of KNOWN: each can be read after those that it uses.
+"""Checks that the modules of crates/*/src have no cycle except those of KNOWN, so that each can be read after those that it uses.
 
-    tools/cycles.py             names each cycle; status 1 if there is another than those of KNOWN, or one of them is gone
+    tools/cycles.py             prints each cycle; status 1 if there is another than those of KNOWN, or one of them is gone
     tools/cycles.py --edges     prints each edge, as `crate: module -> module: names`
 
-A file uses another if a path in it leads to an item there. A `pub use` alone hands a name on, so a path is followed through it to the file that has
-the item, and whoever only hands a name on does not use it. Two graphs are looked at: that of the files, and in each folder that of its modules, each
-taken with all that lies beneath it.
+A file uses another if a path in it leads to an item there. A `pub use` only re-exports a name, so a path is followed through it to the file that has the
+item, and a file that only re-exports does not use it. It checks two graphs: that of the files, and in each folder that of its modules, each with all that
+is in its subfolders.
 """
 import argparse
 import collections

@@ -1,12 +1,12 @@
 #!/usr/bin/env python3
-"""Runs a command, as .ci/run, and tells what the prover took in it for each crate: minutes of processor time for the crate's proof, for its tests, for
-its must-fail edits and for its wrong bodies, and the most memory that one check held.
+"""Runs a command, as .ci/run, and prints what the prover took in it for each crate: minutes of processor time for the crate's proof, for its tests, for
+its must-fail edits and for its mutants, and the most memory of one check.
 
     tools/gate-minutes.py COMMAND..
-    tools/gate-minutes.py --rows FILE    the rows of the table of docs/GATE.md, of all runs that FILE keeps, with what the tree's crates hold now
+    tools/gate-minutes.py --rows FILE    the rows of the table of docs/GATE.md, from all runs that FILE has, with what the crates of the tree contain
 
-It looks once a second at the command's processes and at theirs, and at no other check on the machine, so that it misses up to a second of each; each check
-takes many. The table goes to standard error at the end, and what it is made of to the end of the file that MINUTES names, if it names one.
+Once a second it samples the command's processes and their children, and no other check on the machine, so it misses up to a second of each; each check
+takes many. At the end it prints the table on standard error, and appends its data to the file that MINUTES names, if it names one.
 """
 import argparse
 import collections

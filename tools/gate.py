@@ -1,14 +1,13 @@
 #!/usr/bin/env python3
-"""The merge gate: `rt ci` (every proof from nothing, the must-fail edits, each test, each program as two compilers build it); then scripts over
-the programs and tests that it leaves, as many side by side as there are cores; then the wrong bodies of crates/NAME/wrong, over the libraries
-that it leaves.
+"""Runs the merge gate: `rt ci` (every proof from nothing, the must-fail edits, the program as two compilers build it); then scripts over the programs that it
+leaves, as many in parallel as there are cores; then the mutants of crates/NAME/wrong, over the libraries that it leaves.
 
     .ci/run           runs all, and reads no input
-    .ci/run --list    names the scripts, one a line, 'alone' before each that has the machine for itself
+    .ci/run --list    prints the scripts, one a line, with 'alone' before each that runs by itself
 
-What a script prints comes in one piece, once it has ended. What each step took, which failed, and which looked at nothing, is said once more at the end.
-The last line adds up what `rt ci` and tests/wrong-bodies.py passed and failed. Each other script that fails, or that a signal ends, is one failure more,
-and so is a program that `rt ci` has to leave and did not. Where a tool is missing that some script fails without, that is said at once, and nothing is run.
+The output of a script is printed in one piece, once the script has ended. What each step took, which steps failed, and which had nothing to test, is printed
+again at the end. The last line adds up what `rt ci` and tests/wrong-bodies.py passed and failed. Each other script that fails, or that a signal ends, counts as
+one failure, and so does a program that `rt ci` must leave and did not. If a tool is missing that some script needs, it says so at once and runs nothing.
 """
 import argparse
 import os

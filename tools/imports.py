@@ -4,7 +4,7 @@
     tools/imports.py [--apply] [CRATE..]
 
 `use Rattle.event_log.specs.declared.ids.Tid.{Tid}` and `use Rattle.event_log.specs.History.{same_cpu, same_lock}` become one line,
-`use Rattle.event_log.specs.{declared.ids.Tid.Tid, History.{same_cpu, same_lock}}`. A line that names an operator names its library alone, as `rt ci` wants it:
+`use Rattle.event_log.specs.{declared.ids.Tid.Tid, History.{same_cpu, same_lock}}`. A line that names an operator names only its library, as `rt ci` requires:
 `use Rattle.std.specs.Prelude.{◌≡◌}`. It goes through each .antt file, and the `ghost use` lines of each .rt file. It prints how many lines of imports there
 are and would be; with --apply it writes them.
 """

@@ -1,12 +1,11 @@
 #!/usr/bin/env python3
-"""Proves and builds the libraries beneath the program side by side, each once those beneath it stand; then the program, which counts.
+"""Proves and builds all crates: libraries in parallel, each after those that it depends on, then the program, and runs a `count` with it.
 
     tools/prove-all.py [JOBS]
 
-`rt lib` in one crate keeps every other `rt` out of the crates beneath it, so that several of them wait for one another. Here one process holds
-all crates, as `rt all` does, but without its first pass over all sources. First is the crate beneath the longest chain, by the minutes of proof of
-each crate (docs/GATE.md); it gets the processors that no other can use. It takes JOBS processors, all where none is named. What it proves is
-kept, so it can be stopped and started again: what it started ends with it.
+`rt lib` in one crate locks the crates below it, so several such commands would wait for each other. Here one process holds all locks, as `rt all` does, but
+without its first pass over all sources. It begins with the crate below the longest chain, by the minutes of proof of each crate (docs/GATE.md), and gives that
+crate the processors that no other can use. It uses JOBS processors (default: all). It keeps what it proves, so you can interrupt it and start it again.
 """
 import argparse
 import glob

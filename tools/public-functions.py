@@ -1,13 +1,13 @@
 #!/usr/bin/env python3
-"""Holds that each public function of crates/ has a wrong body, or a line that says why no edit can break it.
+"""Checks that each public function of crates/ has a mutant, or a line that says why no edit can break it.
 
-    tools/public-functions.py           names each function that has neither; status 1 if there is one, or if a line of the list is stale
-    tools/public-functions.py --list    prints each function, with its wrong bodies or its reason
+    tools/public-functions.py           prints each function that has neither; status 1 if there is one, or if a line of the list is stale
+    tools/public-functions.py --list    prints each function, with its mutants or its reason
 
-Public is each function that says `pub` alone, whether or not its crate hands its name on. A law has an empty body, in which there is nothing to turn, so it
-is left out; so are tests. A wrong body is a file crates/NAME/wrong/*.edit, and its line `fn:` names the function as a check does. The list is
-tests/no-wrong-body.txt, sorted, a line `CRATE FUNCTION: REASON` each; a line that begins with # is a comment. A line is stale where there is no such
-function, or where it has a wrong body. The prover is not asked: that it refuses each body is what tests/wrong-bodies.py sees.
+A function is public if it says `pub` without a restriction, whether or not its crate re-exports its name. Laws are left out, because their bodies are empty;
+so are tests. A mutant is a file crates/NAME/wrong/*.edit, whose line `fn:` names the function as a check does. The list is tests/no-wrong-body.txt, sorted,
+a line `CRATE FUNCTION: REASON` each; a line that begins with # is a comment. A line is stale if there is no such function, or if it has a mutant. This
+script calls no prover: tests/wrong-bodies.py tests that each mutant is rejected.
 """
 import argparse
 import collections

@@ -1,16 +1,16 @@
 #!/usr/bin/env python3
-"""Renames what a table lists: in code, definitions, proofs, edits and docs, and in the names of files and folders, since a folder of proofs bears
-the names of the types and traits that it is of.
+"""Renames what a table lists: in code, definitions, proofs, edits and docs, and in the names of files and folders, because a folder of proofs has
+the names of its types and traits.
 
     tools/rename.py [--apply] TABLE
 
-A line of the table is `old new`, and # starts a comment. `old` is a whole name, or with a ~ before it one word of names: `~berth` stands in `own_berth` but
-not in `berths`, and `~Berth` in `IsBerth`. A whole name goes before a word of one, and nothing is renamed twice. In comments and docs a name is renamed
-if it cannot be prose: with `_` or a second capital in it, or between backticks. Paths behind `new` limit the line to the files whose paths begin with one
-of them (`doing under_way crates/cpu/ crates/mctower/src/main.rt`); such a line goes before one of all files.
+A line of the table is `old new`, and # starts a comment. `old` is a whole name, or with a ~ before it one word of names: `~berth` is in `own_berth` but
+not in `berths`, and `~Berth` in `IsBerth`. A whole name has priority over a word, and nothing is renamed twice. In comments and docs a name is renamed
+only if it cannot be prose: with `_` or a second capital in it, or between backticks. Paths after `new` limit the line to files whose paths begin with one
+of them (`doing under_way crates/cpu/ crates/mctower/src/main.rt`); such a line has priority over one for all files.
 
-Without --apply it changes nothing. It prints each new name that stands already, which would make two names one, and each line of prose that
-still says an old word.
+Without --apply it changes nothing. It prints each new name that exists already, because two names would become one, and each line of prose that
+still has an old word.
 """
 import argparse
 import collections

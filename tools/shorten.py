@@ -1,17 +1,17 @@
 #!/usr/bin/env python3
-"""Shortens the proofs of a crate: it tries one call of `grind` for each proof of a proposition, and keeps what the check takes.
+"""Shortens the proofs of a crate: it tries one call of `grind` for each proof of a proposition, and keeps what the check accepts.
 
     tools/shorten.py CRATE [--jobs N] [--minutes N]
 
 A clause of two lines and more, or all clauses of a case split, becomes `grind (arith, LEMMA, ..)` with the lemmas that the old proof names, or `grind arith`.
 All are replaced at once; what an error names is put back, and the parts of it are tried, until the crate is proved. It tries no proof by recursion, none that
-names more than seven lemmas, and no definition: a signature is of a proposition if its conclusion is a relation (≡, ≤, <, ⊥), a record of such fields alone, a
+names more than seven lemmas, and no definition: a signature is of a proposition if its conclusion is a relation (≡, ≤, <, ⊥), a record of only such fields, a
 type named for what holds (`IsRow`, `HasRoom`), or several of these; one that gives a witness is not. Contracts, specs/ and src/ stay as they are.
 
 A module is put back if its check takes over a tenth longer, and over 0.3 s: that is clock, by the times of kept modules (tools/profile.py) in one check before
-and one after, at one job, so another load on the machine can mislead it. The line before the last tells the user seconds of both checks.
-Interrupted, or past its minutes (20), it puts back all that is not proved yet. The last line counts the calls, and lines after formatting. Nobody may edit the
-crate meanwhile. Then run `rt tidy` in the crate, since it leaves imports that nothing uses.
+and one after, at one job, so another load on the machine can mislead it. The line before the last has the user seconds of both checks.
+Interrupted, or after its minutes (default: 20), it puts back all that is not proved yet. The last line counts the calls, and lines after formatting. Do not
+edit the crate meanwhile. Then run `rt tidy` in the crate, since it leaves imports that nothing uses.
 """
 import argparse
 import glob

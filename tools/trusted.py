@@ -1,13 +1,13 @@
 #!/usr/bin/env python3
-"""Counts how many lines of definitions a reader of a theorem has to believe, and holds docs/PROOF.md to it.
+"""Counts the lines of definitions that a reader of a theorem must believe, and compares docs/PROOF.md with the count.
 
     tools/trusted.py            compares the table of docs/PROOF.md with what it counts; status 1 if a number differs
     tools/trusted.py --write    puts the counted numbers into the table
-    tools/trusted.py NAME..     tells of each definition, as cpu::HasOneOrder, its lines, and those of all that it rests on, file by file
+    tools/trusted.py NAME..     prints of each definition, as cpu::HasOneOrder, its lines, and those of all that it depends on, file by file
 
 The section of a theorem names, in its paragraph 'Definitions', those that its clauses cite, as `cpu::HasOneOrder`, or a file of src, as
 `layer_traits/src/layers.rt`, for all that it cites. The row of the theorem in the table has the number of lines of these and of all
-definitions that they rest on, by name, in crates/*/specs: lines with text, with no comments and no imports. Not counted are the clauses
+definitions that they depend on, by name, in crates/*/specs: lines with text, with no comments and no imports. Not counted are the clauses
 themselves, the types of src that definitions mention, the members of traits, and the kit's own definitions. The row 'all' is of all together.
 """
 import argparse

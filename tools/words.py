@@ -1,10 +1,10 @@
 #!/usr/bin/env python3
-"""Lets no definition get a name that another has: a name stands in one file of crates/*/specs, or tools/words.txt lists it.
+"""Checks that no definition has the name of another: a name is in one file of crates/*/specs, or tools/words.txt lists it.
 
-    tools/words.py            status 1 if a name stands in two files and not in the list, or in the list and not in two files
-    tools/words.py NAME..     tells in which files each name is defined
+    tools/words.py            status 1 if a name is in two files and not in the list, or in the list and not in two files
+    tools/words.py NAME..     prints the files in which each name is defined
 
-A name is that of a definition, or of a case of one. Fields are not counted, since each is read behind a value of its record.
+A name is that of a definition, or of a case of one. Fields are not counted, because each is read after a value of its record.
 """
 import argparse
 import collections
