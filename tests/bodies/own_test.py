@@ -43,7 +43,7 @@ WEAK = ("refused_by_its_loop_alone", "refused_by_its_shape_alone")
 # Edits of a copy of the tree: of a file the old text and the new one, and which of two wrong bodies of shared_queue get another sum by it.
 ONE, BOTH = "queue_blocks_leaves_out_a_queue", "queue_blocks_leaves_out_a_queue look_tells_the_other_way"
 SUMS = {
-    "a comment": ("shared_queue/src/opening.rt", "/// The locks of shared queues at boot", "/// The locks at boot", ""),
+    "a comment": ("shared_queue/src/opening.rt", "/// Returns the locks of shared queues at boot", "/// Returns the locks at boot", ""),
     "a lemma of its own crate": ("shared_queue/proofs/Lib.antt", "pub mod OpeningLemmas", "mod OpeningLemmas", ""),
     "a proof below": ("layer_traits/proofs/Lib.antt", "pub mod Seen", "mod Seen", ""),
     "a body below": ("layer_traits/src/payloads.rt", "            value: Snapshot::of(value),", "            value: Snapshot::of(other),", ""),
