@@ -8,7 +8,7 @@ ghost use Rattle.cpu_workers.specs.Counts.{counting};
 mod counted;
 mod sections;
 mod tables;
-pub(crate) mod tasks;
+mod tasks;
 
 pub use crate::refusals::WorkerError as CountFault;
 pub use counted::{Counted, CountedAt, LockOfKind, number_in, number_left};

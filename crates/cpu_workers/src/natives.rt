@@ -5,7 +5,7 @@ ghost use Rattle.std.specs.Prelude.{◌≡◌, List, [], ℕ};
 
 mod run;
 mod seating;
-pub(crate) mod tasks;
+mod tasks;
 
 use crate::workers::{Caller, Hints};
 use layer_traits::{CallLayer, IpcLaw};

@@ -5,18 +5,15 @@
 ghost use Rattle.std.specs.Prelude.{◌≡◌, ◌≤◌, [], All, Err, IfOk, IfErr, IsOk, MatchResult, length, map, vec_capacity};
 ghost use Rattle.cpu_workers.specs.{Reports.Both, Tasks.task_of};
 
-mod known;
-
 use crossbeam_utils::sync::WaitGroup;
-use known::Known;
 use std::snapshot::Snapshot;
 use std::sync::Wait;
 use std::sync::atomic::{AtomicBool, Ordering};
 use std::thread::{Promise, PromisedHandle, Scope, SpawnError, Threads};
 use thiserror::Error;
 
-/// What runs in a thread of its own: a task of one of the kinds that `known` names.
-pub(crate) trait Task: Known + Sized {
+/// What runs in a thread of its own.
+pub(crate) trait Task: Sized {
     /// What it leaves.
     type Done;
 

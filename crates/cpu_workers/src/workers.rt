@@ -12,7 +12,7 @@ pub(crate) mod report;
 pub(crate) mod run;
 mod seating;
 pub(crate) mod seats;
-pub(crate) mod starting;
+mod starting;
 mod stops;
 mod turns;
 mod worker;

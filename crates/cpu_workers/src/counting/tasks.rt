@@ -18,7 +18,7 @@ use table_machine::{Key, Shared};
 
 // A worker before its sections, at the table of its key.
 #[derive(Drop)]
-pub(crate) struct Counting<'a, K: PlanWords> {
+struct Counting<'a, K: PlanWords> {
     shared: &'a Shared<AddOne, K>,
     key: Key<AddOne>,
     times: u64,

@@ -188,9 +188,7 @@ where
             Err(goes_on) => begun = goes_on,
         }
         spins = manners.after(part, m, spins);
-        if idler.after(part) {
-            m.park_native(rt, idler.cpu, idler.rung);
-        }
+        idler.after_poll(rt, part, m);
     }
     unreachable!()
 }

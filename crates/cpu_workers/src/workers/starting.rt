@@ -29,7 +29,7 @@ where
 
 // A worker before its turns, under its gate.
 #[derive(Drop)]
-pub(crate) struct Turning<'a, I: CallLayer<IpcLaw> + Drop, G: Gate>
+struct Turning<'a, I: CallLayer<IpcLaw> + Drop, G: Gate>
 where
     I::Machine: Drop,
 {

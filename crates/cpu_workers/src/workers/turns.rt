@@ -127,18 +127,6 @@ where
     if *held { Some(Stop::Held) } else { None }
 }
 
-// Parks the worker's CPU, unless it is halted.
-#[cold]
-#[inline(never)]
-fn rest<I: CallLayer<IpcLaw> + Drop, R: Wait>(rt: &R, worker: &Worker<I>, idler: &Idler)
-where
-    I::Machine: Drop + Hints,
-{
-    if worker.halted().is_none() {
-        worker.machine().park_worker(rt, idler.cpu, idler.rung);
-    }
-}
-
 /// Lets a worker take its turns, until it stops between two of its sections. Before each turn it
 /// looks whether a section is under way. Where none is, it stops if its CPU is halted, else if the
 /// gate has answered `Limit`, else if `turns` turns are taken; and else it asks the gate, whose
@@ -165,7 +153,8 @@ where
     let mut held = false;
     let mut spins = SPINS;
     let mut manners = Manners::new();
-    let mut idler = Idler::new(worker.number());
+    let own = worker.number();
+    let mut idler = Idler::new(own);
     for _ in rt.forever() {
         if let Some(stop) = before(gate, worker, taken, turns, &mut held) {
             worker.machine().leave();
@@ -177,9 +166,7 @@ where
         let gone = worker.turns(most);
         taken = taken.saturating_add(gone as u64);
         spins = manners.after_turn(worker, spins);
-        if idler.after(worker.part()) && 1 < open {
-            rest(rt, worker, &idler);
-        }
+        idler.after_turn(rt, worker, open);
     }
     unreachable!()
 }
