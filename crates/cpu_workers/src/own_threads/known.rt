@@ -1,5 +1,6 @@
-//! The tasks that a thread of the pool may run. The trait is private to the pool's module, so whoever calls the pool cannot
-//! hand it a task of a kind of its own, whose work was done before a thread started.
+//! The tasks that a thread of the pool may run. The trait is private to the pool's module.
+//! Therefore a caller of the pool cannot pass it a task of another kind, whose work was done before
+//! a thread started.
 
 use crate::counting::tasks::Counting;
 use crate::locks::PlanWords;

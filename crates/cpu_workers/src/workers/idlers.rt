@@ -1,4 +1,5 @@
-//! When an idle CPU parks. No call takes memory or waits.
+//! When an idle CPU parks: after a number of failed polls of its pending queue. No call takes
+//! memory or waits.
 
 ghost use Rattle.std.specs.Prelude.{◌≡◌};
 
@@ -7,8 +8,9 @@ use crate::workers::manners::is_idle;
 use event_log::CpuId;
 use layer_traits::{CallLayer, IpcLaw};
 
-// How many times an idle CPU polls its pending queue before it parks. Two CPUs that hand a buffer to each other
-// find each other's thread within some ten polls; to park and to be woken costs some hundred.
+// How many times an idle CPU polls its pending queue before it parks. Two CPUs that pass a buffer
+// between them find each other's thread within about ten polls. Parking and remote wake-up cost
+// about a hundred.
 const POLLS: u16 = 1_000;
 
 /// An idle CPU's polls of its pending queue.
@@ -21,7 +23,7 @@ pub(crate) struct Idler {
 }
 
 impl Idler {
-    /// Of a CPU that has not been idle.
+    /// Returns the state of a CPU that has not been idle.
     pub(crate) fn new(cpu: CpuId) -> Idler {
         Idler {
             cpu,
@@ -30,8 +32,9 @@ impl Idler {
         }
     }
 
-    /// Before each turn, or poll of a call. It reads the bell between two sections, so before the section that
-    /// polls the queue begins.
+    /// Reads the CPU's bell if no thread runs and no section is under way. A worker calls it before
+    /// each turn, a caller before each poll of a call. Therefore the bell is read before the
+    /// section that polls the queue begins.
     #[inline(always)]
     pub(crate) fn before<I: CallLayer<IpcLaw>>(&mut self, part: &I, machine: &I::Machine)
     where
@@ -42,7 +45,8 @@ impl Idler {
         }
     }
 
-    /// After each turn, or poll of a call: whether the CPU has been idle for so many polls that it may park.
+    /// Counts a failed poll of an idle CPU. A worker calls it after each turn, a caller after each
+    /// poll of a call. Returns whether the CPU has been idle for so many polls that it may park.
     #[inline(always)]
     pub(crate) fn after<I: CallLayer<IpcLaw>>(&mut self, part: &I) -> bool {
         if part.current().is_some() {
