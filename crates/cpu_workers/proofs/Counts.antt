@@ -22,7 +22,7 @@ pub number_is : (opening : LockId → Option ℕ) (lock : LockId) (past : List (
 number_is opening lock [] zeroth = zeroth
 number_is opening lock (s ∷ past) zeroth = grind (arith, number_is opening lock past zeroth)
 
--- a poll of this section, behind others' sections, adds it where it answers and only then
+-- a poll of this section, after others' sections, adds it if and only if the poll returns
 module _ {E : Type 0} (s : Section E) (others old new : List (Section E)) (answered : Bool)
     (is : new ≡ (if answered then s ∷ (others ++ old) else others ++ old)) (theirs : AreOthers cpu_of_section s.cpu others) where
   -- a poll that does not answer adds no section of its CPU
@@ -38,7 +38,7 @@ pub goes_on : {S : Type 0} (under_way : Option S) (answered : Bool) (s t : S) �
     → answered ≡ false → s ≡ t → MayGoOn under_way t
 goes_on under_way answered s t is waits same = grind arith
 
--- a key that has come back from a seat at its table
+-- a key that was returned from a seat at its table
 pub has_made : {E B : Type 0} (lock : LockId) (old new : SeatView E B) (cpu : CpuId) (times : ℕ) → cpu ≡ old.cpu → cpu ≡ new.cpu
     → site_of new.table ≡ site_of old.table → lock_phase cpu new.seen ≡ Idle
     → made cpu lock (sections new.seen) ≡ made cpu lock (sections old.seen) + times → HasMade lock old new times
@@ -74,12 +74,12 @@ sections_add_up lock n (s ∷ past) known =
     (λ k other. let apart = ne_eqb s.cpu.0 k (λ e. other (sym e)) in rw apart refl) in
     grind (arith, sections_add_up lock n past known.1, sum)
 
--- a CPU's sections are those of its own events
+-- a CPU's sections are those of its events
 own_sections : {E : Type 0} (c : CpuId) (log : List (Event (Mark E))) → own_events cpu_of_section c (sections log) ≡ sections (own_events cpu_of_event c log)
 own_sections c [] = refl
 own_sections c (e ∷ log) = grind (arith, own_sections c log)
 
--- the keys that came back are those of all CPUs, and over
+-- the keys that were returned are those of all CPUs, and over
 pub made_back : {B E : Type 0} (lock : LockId) (times : ℕ) {table_view : TableView B} {came : List (SeatView E B)}
     → AllHaveMade lock (new_seat_views table_view table_view.cpus) came times → Back table_view table_view.cpus came
 made_back {E = E} lock times {table_view} {came} all = record {

@@ -1,4 +1,4 @@
--- How a call of native code goes on, poll by poll.
+-- The progress of a call of native code, poll by poll.
 use Rattle.std.proofs.Common.{arith, ◌≡◌, List, [], ◌∷◌, ◌++◌, Option, Some, None, option_map, option_to_list, is_some, true, false, refl, ◌≢◌, if◌then◌else◌}
 use Rattle.std.proofs.Common.{ap, sym, ◌∙◌, subst, append_assoc}
 use Rattle.event_log.{specs.declared.{entries.Entry.Entry, ids.{CpuId.CpuId, Tid.Tid}}, proofs.Same.same_cpu_self}
@@ -37,7 +37,7 @@ module _ (ActsFor : CpuId → Type 0) (cpu : CpuId) (acts : ActsFor cpu) where
   went_on old now new mine seen went = went_more cpu old now new mine seen.others (cpu_same ActsFor cpu seen.others now seen.foreign acts) seen.is went
 
   module _ (t : Tid) (call : Call) where
-    -- however far the call had come, it has come as far after entries of others
+    -- whatever the call's progress, the call has the same progress after entries of others
     pub keeps_on : {call_states left : List CallState} {now new : List Entry} → OthersSeen ActsFor now new → left ≡ call_states
         → KeepsOn cpu t call call_states left now new
     keeps_on {call_states} {left} {now} {new} seen same =
@@ -67,7 +67,7 @@ module _ (ActsFor : CpuId → Type 0) (cpu : CpuId) (acts : ActsFor cpu) where
                   (went_one cpu t call f old (called.others ++ now) (went_more cpu old now (called.others ++ now) [] called.others own refl before));
             })
 
--- a call that goes on is the one that its thread has begun
+-- a call that continues is the one that its thread has begun
 going_kept : (stage : Stage) (s : CallState) (call : Call) → begun_at stage s.call ≡ Some call → (going_at stage s call ≡ s) × (s.call ≡ Some call)
 going_kept stage s call is = grind arith
 
@@ -93,7 +93,7 @@ module _ (cpu : CpuId) (t : Tid) (call : Call) where
         went = subst (λ f. Went cpu old new (entries_of cpu t (buffer_of call) f)) is half.went;
       }
 
-  -- nothing has come of a call that is about to begin
+  -- a call that is about to begin has taken no effect
   pub not_begun : (s : CallState) (old : List Entry) → s.stage ≡ Idle → IsOn cpu t call s old old
   not_begun s old idle =
       let is : begun call ≡ going s call = sym (ap (λ stage. going_at stage s call) idle) in record {
@@ -119,7 +119,7 @@ module _ (ActsFor : CpuId → Type 0) (cpu : CpuId) (acts : ActsFor cpu) {t : Ti
   pub ended_idles : {reply : Reply} → answer ≡ Some reply → Called ActsFor cpu t call call_states left now new answer → (call_state_of left t).stage ≡ Idle
   ended_idles some called = (subst (λ a. Answered call (call_state_of left t) a) some called.answers).0
 
--- who runs after a poll is the thread of the call
+-- the thread that runs after a poll is the thread of the call
 pub runs_on : {A : Type 0} (t : Tid) (own left : Threads) (answer : Option A) → RunsOn t own left answer → is_some left.current ≡ true → left.current ≡ Some t
 runs_on t own left answer runs some = grind (arith, runs.current)
 

@@ -1,4 +1,4 @@
--- From the workers that came back and the closed table to the lawful report.
+-- From the workers whose threads were joined and the closed table to the lawful report.
 use Rattle.std.{proofs.Common.{◌≡◌, ℕ, ◌+◌, ◌<◌, false, List, ◌++◌, length, refl, ap, sym, ◌∙◌, subst, arith}, specs.Prelude.Option}
 use Rattle.cpu_workers.proofs.{TableOrder.{goes_on, traces_ordered, other_cpus_rest, Goes}, Turning.{took_of, within_others}, ClosedLog.acts_legal}
 use Rattle.cpu_workers.proofs.{ClosedLog.{buffers_left, queues_left, buffer_opens, sections_proper, opening_starts}, Lasting.all_ended, OneOrder.HasOrder}
@@ -31,7 +31,7 @@ module _ {plan : BootPlan} {May : CpuId → Go → ℕ → Type 0} {turns : ℕ}
   went : WentBy setup (May c) turns (record left.first { cpu = c; private = boot_of setup c }) left.last line.taken line.stop
   went = rw (← left.at_boot.boots) (rw (← left.at_boot.cpu_is) (left.ran.went setup left.at_boot.planned))
 
-  -- where it stands, with what it was charged with by the plan
+  -- its state, with its charge by the plan
   abbrev charge : Charge
   charge = record { homes = setup.homes; caps = setup.caps; programs = left.first.plan.programs; limit = setup.trace_room }
 
@@ -136,7 +136,7 @@ module _ (setup : Setup) (May : CpuId → Go → ℕ → Type 0) (turns : ℕ) (
         (renamed_others c acts (other_cpus_rest setup table_view so keys blocks closes c beyond));
   }
 
-  -- What is told of a CPU.
+  -- What the report states of a CPU.
 
   told : (c : CpuId) (acts_seen : List (Action TowerName)) (line : CpuReport) → HasSeen setup (May c) turns c acts_seen line
       → ReportsTrue setup (May c) turns c line

@@ -83,8 +83,9 @@ module _ {P N : Type 0} {table : P → List (Action N) → Outcome P N} {cpu : C
 
 -- A worker on its way.
 
--- by a table of its plan it took so many turns, between two sections only where it might; if the gate holds it, none after that but to end a
--- section; and the gate was asked at each turn, and let whoever it does not hold pass
+-- under a table of its plan it took so many turns, between two sections only if it might. If the
+-- gate holds it, it took none after that except to end a section. The gate was asked at each turn,
+-- and let a worker pass that it does not hold.
 pub record Goes (setup : Setup) (May : Go → ℕ → Type 0) (turns : ℕ) (start now : Working) (taken : ℕ) (held : Bool) : Type 0 where
   pub within : TookWithin (cpu_step setup start.cpu) start.cpu (MayTakeTurn turns (May Pass)) start.private now.private (log now) taken
   pub was_held : held ≡ true → WasHeld (cpu_step setup start.cpu) start.cpu (May Limit) start.private now.private (log now) taken
@@ -232,7 +233,7 @@ module _ {May : CpuId → Go → ℕ → Type 0} {turns : ℕ} {start now : Work
 abbrev pub shown_after : ℕ → ℕ → ℕ
 shown_after taken k = min (taken + k) most
 
--- of more turns than one each is allowed: the gate does not hold the worker and lets it pass at each
+-- if more than one turn is allowed: the gate does not hold the worker and lets it pass at each
 pub record AllAllowed (May : ℕ → Type 0) (turns taken k : ℕ) (held : Bool) : Type 0 where
   pub free : held ≡ false
   pub below : taken + k ≤ turns
@@ -241,7 +242,8 @@ pub record AllAllowed (May : ℕ → Type 0) (turns taken k : ℕ) (held : Bool)
 module _ {May : CpuId → Go → ℕ → Type 0} {turns : ℕ} {start now : Working} {taken : ℕ} {held : Bool} (ran : Ran May turns start now taken held) (new : Bool)
     (limits : new ≡ true → (held ≡ true) ⊎ May now.cpu Limit taken) (kept : held ≡ true → new ≡ true) (small : turns ≤ most) (fits : taken ≤ most)
     (passes : new ≡ false → May now.cpu Pass taken) (may : (is_inside now ≡ true) ⊎ ((new ≡ false) × (taken < turns))) where
-  -- it may take the turn behind so many: the first as the gate was asked for it, each further one as it is allowed
+  -- it may take the turn after so many: the first as the gate was asked for it, each further one as
+  -- it is allowed
   next_turn : {k : ℕ} {w : Working} → TookTurns now k w → IsSame start w → (1 < k + 1 → AllAllowed (May now.cpu Pass) turns taken (k + 1) new)
       → (new ≡ false → May w.cpu Pass (shown_after taken k)) × ((is_inside w ≡ true) ⊎ ((new ≡ false) × (shown_after taken k < turns)))
   next_turn TookTurns.no_turns same all =

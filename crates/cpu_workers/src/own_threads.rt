@@ -42,8 +42,8 @@ pub struct NoThread {
     refused: (),
 }
 
-/// What the tasks' threads left, one element for each, in their order. It is evidence: it is made only
-/// of joined threads.
+/// What the tasks' threads left, one element for each, in their order. It is evidence: it is made
+/// only of joined threads.
 #[derive(Drop)]
 pub struct Joined<D: Drop> {
     done: Vec<D>,
