@@ -73,7 +73,7 @@ out_so caps traces left es out have is first values put = record {
   out = put;
 }
 
--- a refusal to gather is want of memory
+-- a failure to gather is that memory ran out
 pub gather_refused : (A : Type 0) (caps : List ℕ) (traces : List (List Entry)) (left : List (List Message)) (error : GatherError) (out : Output)
     → HaveText caps traces left → IsUntouched out → (error ≡ gathering.NoOrder → HasNoOrder traces)
     → Writes {A = A} caps traces left (Err (from_gather error)) out

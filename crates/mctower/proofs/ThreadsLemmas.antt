@@ -33,7 +33,7 @@ report_has plan turns r within lawful = record {
   runs = lawful.report.run;
 }
   where
-    -- what is told of the CPU whose trace this is
+    -- what is reported of the CPU whose trace this is
     report_at : (c : ℕ) (trace : List Entry) → slice_get r.traces c ≡ Some trace
         → (line : CpuReport) × (line.trace ≡ trace) × ReportsTrue (setup_for plan) (AlwaysOpen (cpu_at c)) turns (cpu_at c) line
     report_at c trace at =
@@ -56,7 +56,7 @@ has_worked turns plan r stops text words same is = record {
   is_run = printed_by_run plan turns r words.tells.report text is;
 }
 
--- the plan's workers have run, their text is out, and nothing more was put out behind it
+-- the plan's workers have run, their text is written, and nothing after it
 pub plan_worked : (turns : ℕ) (plan : BootPlan) (r : ShownReport) (stops : Vec Stop Global) (answer : Result Done Refusal) (first whole : Output)
     → HasWords plan AlwaysOpen turns r → stops.items ≡ r.stops
     → (first.failed ≡ false) × IsOut plan.caps r.traces (left_in (length plan.caps) r) first
