@@ -25,15 +25,15 @@ number_is opening lock (s ∷ past) zeroth = grind (arith, number_is opening loc
 -- a poll of this section, after others' sections, adds it if and only if the poll returns
 module _ {E : Type 0} (s : Section E) (others old new : List (Section E)) (answered : Bool)
     (is : new ≡ (if answered then s ∷ (others ++ old) else others ++ old)) (theirs : AreOthers cpu_of_section s.cpu others) where
-  -- a poll that does not answer adds no section of its CPU
+  -- a poll that does not return adds no section of its CPU
   pub poll_waits : answered ≡ false → made s.cpu s.lock new ≡ made s.cpu s.lock old
   poll_waits waits = grind (arith, own_others cpu_of_section s.cpu others old theirs)
 
-  -- a poll that answers adds its section
+  -- a poll that returns adds its section
   pub poll_answers : answered ≡ true → made s.cpu s.lock new ≡ made s.cpu s.lock old + 1
   poll_answers answers = grind (arith, own_others cpu_of_section s.cpu others old theirs, same_cpu_self s.cpu, same_lock_self s.lock)
 
--- after a poll that does not answer, the section that was polled is under way
+-- after a poll that does not return, the section that was polled is under way
 pub goes_on : {S : Type 0} (under_way : Option S) (answered : Bool) (s t : S) → under_way ≡ (if answered then None else Some s)
     → answered ≡ false → s ≡ t → MayGoOn under_way t
 goes_on under_way answered s t is waits same = grind arith
@@ -55,7 +55,7 @@ total_each : (f : ℕ → ℕ) (n k : ℕ) → ((c : ℕ) → c < n → f c ≡ 
 total_each f zero k same = omega arith
 total_each f (suc n) k same = omega (arith, total_each f n k (λ c under. same c (omega arith)), same n (omega arith))
 
--- where one CPU's number goes up, so does the sum
+-- if one CPU's number rises, so does the sum
 total_more : (f g : ℕ → ℕ) (n d b : ℕ) → d < n → g d ≡ f d + b → ((k : ℕ) → k ≢ d → g k ≡ f k) → total g n ≡ total f n + b
 total_more f g zero d b within here other = absurd (omega arith)
 total_more f g (suc n) d b within here other = elim (cases_eq n d) [

@@ -115,7 +115,7 @@ brought = bare_answer_row (outcome_row (lock_out_of bare_out_row))
 abbrev guarded : RattleType
 guarded = block_row (sleep_block_row (lock_block_row buffer_block_row))
 
--- a seat goes from thread to thread, whatever its words are
+-- a seat may be sent from thread to thread, whatever its words are
 pub tower_seat_send : (a : NamedLft) (K : RattleType) (k : _) → IsSend (seat_row a K k)
 tower_seat_send a K k = view_send _ _ _ _ _ (declared_send (inside_type a K k) (
   seat_part a edit K _ answer handed brought (record {

@@ -8,7 +8,7 @@ use Rattle.layer_traits.specs.{Layers.BufferLaw.{call_state_of, entry_of, Callin
 use Rattle.{layer_traits.specs.Threads.Passes.pass_after, cpu.{specs.{Cpus.of_cpu, Guests.entries_of}, proofs.ListFacts.GuestLists.cpu_same}}
 use Rattle.cpu_workers.specs.Calls.{EndsCall, IsOn, IsOne, KeepsOn, Returned, Went}
 
--- what a poll leaves of a call, before its answer is read
+-- what a poll leaves of a call, before its result is read
 pub record Half (cpu : CpuId) (t : Tid) (call : Call) (effect : Option Effect) (old new : List Entry) : Type 0 where
   pub one : IsOne call effect
   pub went : Went cpu old new (entries_of cpu t (buffer_of call) effect)
@@ -72,7 +72,7 @@ going_kept : (stage : Stage) (s : CallState) (call : Call) → begun_at stage s.
 going_kept stage s call is = grind arith
 
 module _ (cpu : CpuId) (t : Tid) (call : Call) where
-  -- a poll without an answer
+  -- a poll without a result
   pub still_on : (s : CallState) (old new : List Entry) → Answered call s None → Half cpu t call s.effect old new → IsOn cpu t call s old new
   still_on s old new answered half =
       let kept = going_kept s.stage s call answered in record {
@@ -139,7 +139,7 @@ pub ended_on : {A : Type 0} (pass : Pass) (queue : List Tid) (own left : Threads
     → left ≡ (if is_some answer then pass_after pass queue own else own) → left.ended ≡ own.ended
 ended_on pass queue own left answer not is = grind arith
 
--- the thread whose call answers runs on
+-- the thread whose call returns continues to run
 pub answers_run : (t : Tid) (own left : Threads) (answer : Option Reply) (reply : Reply) → answer ≡ Some reply → RunsOn t own left answer
     → left.current ≡ Some t
 answers_run t own left answer reply is ran = grind (arith, ran.current)

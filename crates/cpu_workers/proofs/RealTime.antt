@@ -42,7 +42,7 @@ calls_hit c t e es here its =
     ∙ ap (λ (b : Bool). (if b then (if e.thread.0 == t.0 then 1 else 0) else 0) + length (thread_entries c t es)) here
     ∙ ap (λ (b : Bool). (if b then 1 else 0) + length (thread_entries c t es)) its
 
--- a beginning that holds a list has at least its calls
+-- a prefix that contains a list has at least its calls
 calls_kept : (c : CpuId) (t : Tid) (pre more : List Entry) (p : ℕ) → length pre ≤ p → length (thread_entries c t pre) ≤ length (thread_entries c t (take p (pre ++ more)))
 calls_kept c t [] more p long = omega arith
 calls_kept c t (e ∷ pre) more zero long = absurd (omega arith)

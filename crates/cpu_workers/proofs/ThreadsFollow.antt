@@ -110,7 +110,7 @@ module _ (setup : Setup) where
   abbrev Follow : Private → Type 0
   Follow p = (t : Tid) → Stood (program_of setup t) (thread_at p t).guest (entries_in p t) (thread_at p t).call
 
-  -- one thread has gone on
+  -- one thread has changed
   set_thread : (p : Private) (t : Tid) (x : Thread) → Follow p → Stood (program_of setup t) x.guest (entries_in p t) x.call → Follow (with_thread p t x)
   set_thread p t x follow now u = by_test (same_tid t u) refl
     where
@@ -126,7 +126,7 @@ module _ (setup : Setup) where
           (thread_at (with_thread p t x) v).call) (same_tid_true t u is) (here (cases_lt t.0 (length p.threads)))
       by_test false off = subst (λ (y : Thread). Stood (program_of setup u) y.guest (entries_in p u) y.call) (sym (at_other p t u x off)) (follow u)
 
-  -- one that is in no call has gone on by itself
+  -- one that is in no call has changed by itself
   set_guest : (p : Private) (t : Tid) (guest : State) → (thread_at p t).call ≡ None → Follow p
       → (IsProgramsCalls (program_of setup t) (entries_in p t) (thread_at p t).guest → IsProgramsCalls (program_of setup t) (entries_in p t) guest)
       → Follow (with_state p t guest)
@@ -134,7 +134,7 @@ module _ (setup : Setup) where
       set_thread p t _ follow (subst (λ o. Stood (program_of setup t) guest (entries_in p t) o) (sym outside)
       (more (subst (λ o. Stood (program_of setup t) (thread_at p t).guest (entries_in p t) o) outside (follow t))))
 
-  -- one thread has gone on by an effect
+  -- one thread has changed by an effect
   set_effect : (p : Private) (t : Tid) (x : Thread) (e : Entry) → t.0 < length p.threads → e.thread ≡ t → Follow p
       → Stood (program_of setup t) x.guest (e ∷ entries_in p t) x.call → Follow (record (with_thread p t x) { trace = p.trace ++ e ∷ [] })
   set_effect p t x e known its follow now u = by_test (same_tid t u) refl

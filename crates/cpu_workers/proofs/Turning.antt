@@ -27,7 +27,8 @@ below_shown : (turns shown : ℕ) → turns ≤ most → shown < turns → (coun
 below_shown turns shown small short count counts =
     let same : count ≡ shown = counts.exact (omega (arith, small, short)) in omega (arith, same, short)
 
--- a stop that is true where the gate has answered `Limit` is true by what it may answer
+-- a stop that is true according to what the gate has returned is true according to what it may
+-- return
 true_stop : (halted : Option Reason) {A B : ℕ → Type 0} (turns taken : ℕ) (stop : Stop) → ((turn : ℕ) → A turn → MayHold B taken)
     → IsTrueStop halted A turns taken stop → IsTrueStop halted B turns taken stop
 true_stop halted turns taken AllEnded may is = is
@@ -109,7 +110,7 @@ ran_none May turns w fresh = record {
   };
 }
 
--- whom the gate holds now: it did before, or it has answered `Limit`
+-- if the gate holds the worker, it did before, or it has returned `Limit`
 held_now : {setup : Setup} {May : Go → ℕ → Type 0} {turns : ℕ} {start now : Working} {taken : ℕ} {held : Bool} → Goes setup May turns start now taken held
     → (held ≡ true) ⊎ May Limit taken → WasHeld (cpu_step setup start.cpu) start.cpu (May Limit) start.private now.private (log now) taken
 held_now goes (inl was) = goes.was_held was
@@ -122,7 +123,7 @@ held_now {taken = taken} goes (inr may) = record {
   within = record { count = goes.within.count; steps = within_up goes.within.count (omega arith) goes.within.steps; counted = goes.within.counted };
 }
 
--- the gate was asked at the turn just taken too
+-- the gate was asked at the turn that was taken last too
 asked_on : (May : Go → ℕ → Type 0) (taken : ℕ) (held : Bool) → AskedAtEach May taken → (held ≡ false → May Pass taken)
     → (held ≡ true → MayHold (May Limit) taken) → AskedAtEach May (counted_on taken)
 asked_on May taken held asked free holds k before = elim (cases_lt k taken) [

@@ -28,7 +28,7 @@ abbrev pub IsOne : Call → Option Effect → Type 0
 IsOne call None = Unit {0}
 IsOne call (Some f) = IsEffectOf call f
 
--- what was seen has grown, by just these entries of this CPU, newest first
+-- what was seen has grown, by exactly these entries of this CPU, newest first
 pub record Went (cpu : CpuId) (old new : List Entry) (mine : List Entry) : Type 0 where
   pub more : List Entry
   pub grows : new ≡ more ++ old

@@ -19,7 +19,7 @@ use Rattle.cpu_workers.specs.{Orders.{FollowsProgram, IsTraceOf}, Reports.{IsTru
 use Rattle.sleep_wakeup.specs.Nested as sleep
 use Rattle.queuing_lock.specs.Nested as lock
 
--- the tower's edit of the block of a lock, the block, and what an edit answers
+-- the tower's edit of the block of a lock, the block, and the result of an edit
 abbrev pub LockEdit : Type 0
 LockEdit = SleepEdit (QLockEdit (CvEdit BufferEdit) CvLeave)
 
@@ -29,7 +29,7 @@ LockBlock = SleepBlock (QBlock BufferState)
 abbrev pub LockOut : Type 0
 LockOut = Outcome (QOut (CvOut BufferOut))
 
--- a words log of the tower's locks
+-- a log of words of the tower's locks
 abbrev pub WordsOfTower : Type 0
 WordsOfTower = List (Event (Mark (QueueEdit LockEdit)))
 
@@ -41,7 +41,7 @@ Key = SeatView (QueueEdit LockEdit) (QueueBlock LockBlock)
 abbrev pub tower_rules : Rules (QueueEdit LockEdit) (QueueBlock LockBlock) (QueueAnswer LockOut)
 tower_rules = queue_rules (nested_rules (busy_rules (cv_rules buffer_monitor_rules))) (nested_moves (busy_rules (cv_rules buffer_monitor_rules)))
 
--- the actions of a words log, by the names of the layers above
+-- the actions of a log of words, under the names of the layers over it
 abbrev pub acts_in : WordsOfTower → List (Action TowerName)
 acts_in log = map (renamed (renamed_edit lock.lock_call)) (map (renamed (renamed_edit sleep.slept_edit)) (acts_of edit_of log))
 
@@ -107,7 +107,7 @@ pub record HaveCome (setup : Setup) (May : CpuId → Go → ℕ → Type 0) (tur
   pub each : (c : CpuId) → c.0 < setup.cpus → (key : Key) × (line : CpuReport) × (slice_get keys c.0 ≡ Some key) × (key.cpu ≡ c) × IsCpuReportOf r c line
       × HasSeen setup (May c) turns c (acts_in key.seen) line
 
--- a report of the closed table, whose blocks are those that `close` gave
+-- a report of the closed table, whose blocks are those that `close` returned
 abbrev pub shown : List (List Entry) → List ℕ → List Stop → List (LockId × QueueBlock LockBlock) → ShownReport
 shown traces taken stops blocks = record { traces = traces; taken = taken; stops = stops; blocks = blocks_read blocks }
 
@@ -120,7 +120,7 @@ pub record IsReported (setup : Setup) (May : CpuId → Go → ℕ → Type 0) (t
   pub closes : ClosesTable tower_rules table_view keys blocks
   pub told : r.blocks ≡ blocks_read blocks
 
--- such a report is lawful, whatever this gate may answer
+-- such a report is lawful, whatever this gate may return
 abbrev pub ReportsAreLawful : (CpuId → Go → ℕ → Type 0) → Type 0
 ReportsAreLawful May = (setup : Setup) (turns : ℕ) (table_view : TableView (QueueBlock LockBlock)) (keys : List Key)
     (blocks : List (LockId × QueueBlock LockBlock)) (r : ShownReport) → IsReported setup May turns table_view keys blocks r → IsLawfulReport setup May turns r

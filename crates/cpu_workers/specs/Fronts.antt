@@ -29,6 +29,6 @@ pub record IsFront (setup : Setup) (later earlier : List (Action TowerName)) : T
   pub before : (a b : Entry) → Contains (reverse (effects_of setup.caps earlier)) a → Contains goes_on.more b
       → ComesBefore (reverse (effects_of setup.caps (later ++ earlier))) a b
 
--- so it is at each front
+-- each prefix of the list is so
 abbrev pub AreLinearizable : Setup → List (Action TowerName) → Type 0
 AreLinearizable setup acts = (later earlier : List (Action TowerName)) → acts ≡ later ++ earlier → IsFront setup later earlier

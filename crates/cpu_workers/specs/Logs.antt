@@ -1,4 +1,4 @@
--- The report of a plan's workers beside the words log in which they acted.
+-- The report of a plan's workers, and the log of words in which they acted.
 use Rattle.std.specs.Prelude.{◌≡◌, ℕ, reverse, Option}
 use Rattle.{boot.specs.Plan.BootPlan, event_log.specs.{declared.ids.{CpuId.CpuId, LockId.LockId}, History.IsLawful}}
 use Rattle.{layer_traits.specs.Protocols.WordsProtocol.MayCome, cpu.specs.{Sound.setup_for, Table.Setups.Setup, Tower.Composed.named}}

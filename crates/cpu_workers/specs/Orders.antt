@@ -10,7 +10,7 @@ use Rattle.{cpu.specs.{Cpus.{IsOfHome, of_cpu, of_thread}, Table.Setups.thread_a
 abbrev pub effects_of : List ℕ → List (Action TowerName) → List Entry
 effects_of caps acts = effects_in (opening_locks caps) (buffer_sections (map event_of (sections_in acts)))
 
--- a trace, oldest first, is the CPU's effects, once and in their order
+-- a trace, oldest first, is the CPU's effects, once each and in order
 abbrev pub IsTraceOf : CpuId → List ℕ → List (Action TowerName) → List Entry → Type 0
 IsTraceOf c caps acts trace = trace ≡ reverse (of_cpu c (effects_of caps acts))
 

@@ -33,6 +33,6 @@ pub record IsReportOfRun (setup : Setup) (May : CpuId → Go → ℕ → Type 0)
       → (line : CpuReport) × IsCpuReportOf r c line × StandsAsTold setup (May c) turns (run_by setup schedule) c line
   pub left : AreLeft setup (run_by setup schedule).log r
 
--- each lawful report is one of a run, whatever this gate may answer
+-- each lawful report is one of a run, whatever this gate may return
 abbrev pub ReportsAreRuns : (CpuId → Go → ℕ → Type 0) → Type 0
 ReportsAreRuns May = (setup : Setup) (turns : ℕ) (r : ShownReport) → IsLawfulReport setup May turns r → IsReportOfRun setup May turns r

@@ -64,7 +64,7 @@ pub record WasHeld {P N : Type 0} (table : P → List (Action N) → Outcome P N
   pub counted : CountsTurns turn count
   pub within : TookWithin table cpu (below count) first last log taken
 
--- the gate may have answered `Limit` at some turn that was asked for
+-- the gate may have returned `Limit` at some turn that was asked for
 abbrev pub MayHold : (ℕ → Type 0) → ℕ → Type 0
 MayHold May taken = (turn : ℕ) × (turn ≤ taken) × May turn
 

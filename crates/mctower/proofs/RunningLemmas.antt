@@ -1,4 +1,4 @@
--- What a run of a plan answers, by what its parts answer.
+-- The result of a run of a plan, by the results of its parts.
 use Rattle.std.proofs.{Common.{◌≡◌, ℕ, true, false, List, [], length, map, replicate, sym, ap, ◌∙◌}, lemmas.{Bool.false≢true, List.{append-nil, length-map}}}
 use Rattle.std.specs.Prelude.{Result, Ok, Err, IsErrAnd}
 use Rattle.{event_log.{specs.{declared.ids.CpuId.CpuId, Buffers.empty_buffers}, proofs.{Streams.taken_put, RunLemmas.op_order_from}}, boot.specs.Plan.BootPlan}

@@ -1,4 +1,4 @@
--- What a run in threads answers, by what its parts answer.
+-- The result of a run in threads, by the results of its parts.
 use Rattle.std.proofs.{Common.{◌≡◌, ◌⊎◌, inl, inr, ℕ, ◌<◌, false, true, List, [], length, Some, refl, ap, ◌∙◌}, lemmas.Option.slice_get_within}
 use Rattle.std.specs.{Prelude.{Result, Ok, Err, Vec, slice_get, if◌then◌else◌}, Global.Global}
 use Rattle.event_log.{specs.{declared.entries.Entry.Entry, Buffers.empty_buffers}, proofs.{Streams.taken_put, RunLemmas.op_order_from, BoolLemmas.refuted}}
@@ -11,7 +11,7 @@ use Rattle.mctower.{specs.Threads.AlwaysOpen, proofs.{RunningLemmas.all_put, Thr
 use Rattle.cpu_workers.specs.Logs.{HasWords}
 use Rattle.mctower.specs.declared.run.run_faults.Fault.TheVariants as run
 
--- what is so for a plan that was read
+-- what holds for a plan that was read
 pub of_read : (Means : BootPlan → Result Done Refusal → Output → Type 0) (plan : BootPlan) (read : Result BootPlan BootError) (answer : Result Done Refusal)
     (out : Output) → read ≡ Ok plan → RefusedBy lacks_memory answer out ⊎ Means plan answer out → RefusedBy lacks_memory answer out
     ⊎ OfPlan Means read answer out

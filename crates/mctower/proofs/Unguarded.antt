@@ -52,7 +52,7 @@ pub runs_alike : (If : Type 0) → If → (plan : BootPlan) (steps : List CpuId)
     → RunsPlan If plan steps result out → RunsTextOn NoCondition (Ok plan) steps result out
 runs_alike If here plan steps result out runs = runs_plan If NoCondition (λ always. here) plan steps result out runs
 
--- want of memory is no more than that, whatever the text
+-- out of memory is no more than that, whatever the text
 wants_memory : (read : Result BootPlan BootError) (steps : List CpuId) (evidence : NoMemoryTold) (out : Output) → IsUntouched out
     → RunsTextOn NoCondition read steps (Err (NoMemory evidence)) out
 wants_memory (Ok plan) steps evidence out untouched = untouched

@@ -19,7 +19,7 @@ use Rattle.tracer.specs.declared.verdicts.Verdict.TheVariants as verdict
 use Rattle.tracer.specs.Reasons as reasons
 use Rattle.tracer.specs.declared.checking.InputFault.TheVariants as unjudged
 
--- the exit status of an answer
+-- the exit status of a result
 abbrev pub status_of : Result Done Refusal → ℕ
 status_of (Ok (Exit status)) = status
 status_of (Ok (BothCounted plain table)) = 0
@@ -111,7 +111,7 @@ OfBytes Means bytes answer out = RefusedBy lacks_memory answer out
     ⊎ (((¬ IsUtf8 bytes) × RefusedBy (BadPlan BadToml) answer out)
     ⊎ (IsUtf8 bytes × OfPlan Means (plan_of bytes) answer out))
 
--- it is so for the input's plan, or the input was not read
+-- it holds for the input's plan, or the input was not read
 abbrev pub OfInput : (BootPlan → Result Done Refusal → Output → Type 0) → Option (List ℕ) → Result Done Refusal → Output → Type 0
 OfInput Means input answer out = RefusedBy lacks_memory answer out
     ⊎ (RefusedBy ReadFault answer out
@@ -154,7 +154,7 @@ abbrev pub steps_asked : Option Text → Option (List CpuId)
 steps_asked None = Some []
 steps_asked (Some text) = steps_of text
 
--- the steps are run; what is no schedule is a bad command line, want of memory aside
+-- the steps are run; a text that is no schedule is a bad command line, unless memory ran out
 abbrev pub RunsAsked : Option (List CpuId) → Option (List ℕ) → Result Done Refusal → Output → Type 0
 RunsAsked (Some steps) input answer out = OfInput (ServesPlan steps) input answer out
 RunsAsked None input answer out = RefusedBy lacks_memory answer out ⊎ RefusedBy BadSchedule answer out

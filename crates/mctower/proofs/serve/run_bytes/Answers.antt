@@ -14,7 +14,7 @@ told : (plan : BootPlan) (steps : List CpuId) (s : Shown) (state : State) (answe
 told plan steps s state answer false ran is given = (state, is, state_of_run NoCondition plan steps s ran tt state is, given)
 told plan steps s state answer true ran is given = given
 
--- the trace of a run whose text was put out, where this is put out in all
+-- the trace of a run whose text was written, if this is all that was written
 traced : (steps : List CpuId) (plan : BootPlan) (s : Shown) (answer : Result Done Refusal) (first whole : Output)
     (is : IsPrinted NoCondition plan steps s first) → PutsRun plan steps s is.out.text answer whole → RunsTrace plan steps answer whole
 traced steps plan s answer first whole is put = record {
@@ -29,7 +29,7 @@ traced steps plan s answer first whole is put = record {
   put = put;
 }
 
--- the text of a run is out, and then nothing more was put out
+-- the text of a run is written, and then nothing more
 ran_out : (steps : List CpuId) (ran : Result Shown Fault) (state : State) (read : Result BootPlan BootError) (answer : Result Done Refusal)
     (first whole : Output) → RunsTextOn NoCondition read steps ran first → Tells ran (Ok state)
     → answer ≡ (if whole.failed then Err WriteFault else Ok (Ran state)) → Outs whole.failed first.new whole.new [] → first.old ≡ whole.old
