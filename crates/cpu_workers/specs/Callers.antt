@@ -5,8 +5,8 @@ use Rattle.{event_log.specs.{declared.ids.{CpuId.CpuId, Tid.Tid}, Messages.{Mess
 use Rattle.layer_traits.specs.{declared.calls.Reply.Reply, Blocks.BufferEffects.entry, Layers.BufferLaw.{IsEffectOf, buffer_of, entry_of, reply_of}}
 use Rattle.{cpu.specs.Cpus.of_cpu, cpu_workers.specs.declared.workers.callers.TheConstants.MOST_CALLS}
 
--- a caller to its users: its CPU and its thread, the capacities of the buffers, which machine it
--- is, and the entries of its calls, oldest first
+-- a caller as its users see it: its CPU and thread, the buffers' capacities, which machine it is,
+-- and its calls' entries, oldest first
 pub record CallerView : Type 0 where
   pub cpu : CpuId
   pub thread : Tid
@@ -14,9 +14,9 @@ pub record CallerView : Type 0 where
   pub site : List ℕ
   pub calls : List Entry
 
--- the invariant of a caller: its part agrees with its machine, which has room at any time; nothing
--- is under way and its thread is in no call; each buffer opened empty; it counts its calls, which
--- are at most `MOST_CALLS`
+-- The invariant of a caller. Its part agrees with its machine, which has room at any time. Nothing
+-- is under way, and its thread is in no call. Each buffer opened empty. It counts its calls, which
+-- are at most `MOST_CALLS`.
 pub record IsCaller (PartFits Roomy Nothing Rests Opens : Type 0) (cpu : CpuId) (seen : List Entry) (made : ℕ) : Type 0 where
   pub fits : PartFits
   pub room : Roomy

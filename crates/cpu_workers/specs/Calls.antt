@@ -12,8 +12,8 @@ begun_under_way t None = None
 begun_under_way t (Some Calls) = Some (Calling t)
 begun_under_way t (Some (Passes pass)) = Some (Passing pass)
 
--- the CPU with these threads may begin this: the call if its thread runs, a pass if it is allowed,
--- unless it would end the thread that runs
+-- the CPU with these threads may begin this: the call if its thread runs, or a pass that is allowed
+-- and does not end that thread
 abbrev pub MayBegin : Tid → Threads → Begun → Type 0
 MayBegin t own Calls = own.current ≡ Some t
 MayBegin t own (Passes pass) = MayPass pass own × (pass ≢ End)
@@ -34,8 +34,8 @@ pub record Went (cpu : CpuId) (old new : List Entry) (mine : List Entry) : Type 
   pub grows : new ≡ more ++ old
   pub own : of_cpu cpu new ≡ mine ++ of_cpu cpu old
 
--- a call's progress since these entries were seen: it may be polled, and what was seen has grown by
--- the entry of its effect, if it took effect
+-- A call's progress since these entries were seen. It may be polled. If it took effect, what was
+-- seen has grown by the entry of its effect.
 pub record IsOn (cpu : CpuId) (t : Tid) (call : Call) (call_state : CallState) (old now : List Entry) : Type 0 where
   pub may : MayPollCall call_state call
   pub one : IsOne call (going call_state call).effect

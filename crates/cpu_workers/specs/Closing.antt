@@ -57,9 +57,9 @@ block_shown o = option_map view (option_map (viewed_block nested_lock_of) (optio
 abbrev pub blocks_read : List (LockId × QueueBlock LockBlock) → LockId → Option Block
 blocks_read blocks lock = block_shown (opened blocks lock)
 
--- a table that opened with the locks of this setup: a queue for each of its CPUs, with the homes of
--- its threads, and its buffers, each empty under a free lock with no sleepers. There is a CPU, and
--- all traces together have less than 2^64 entries.
+-- A table that opened with the locks of this setup: a queue for each of its CPUs, with the homes of
+-- its threads, and its buffers. Each buffer is empty, under a free lock with no sleepers. There is
+-- a CPU, and all traces together have less than 2^64 entries.
 pub record StartsSo (setup : Setup) (table_view : TableView (QueueBlock LockBlock)) : Type 0 where
   pub some : 0 < setup.cpus
   pub cpus : table_view.cpus ≡ setup.cpus
@@ -75,9 +75,9 @@ pub record StartsSo (setup : Setup) (table_view : TableView (QueueBlock LockBloc
 -- way.
 --
 -- Between two sections it took a turn only below so many, and only if the gate may have let it pass
--- at each turn so far. The gate was asked with the number of turns taken. If the CPU was held, it
--- took no such turn after a `Limit`. The gate was asked before each turn, also inside a section,
--- until it returned `Limit`. If all turns are used, it let the CPU pass at each.
+-- at each turn. The gate was asked with the number of turns taken. If the CPU was held, it took no
+-- such turn after a `Limit`. The gate was asked before each turn, also inside a section, until it
+-- returned `Limit`. If all turns are used, it may have let the CPU pass at each.
 --
 -- The CPU's stop is true of its last state, and its trace is its effects in what it has seen. The
 -- trace is within its room, each entry is of a home thread, and each home thread followed its

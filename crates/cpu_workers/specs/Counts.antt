@@ -7,7 +7,7 @@ use Rattle.layer_traits.specs.{declared.edits.Mark.Mark, Protocols.{OneLock.open
 use Rattle.{table_machine.specs.SeatViews.{TableView, SeatView, IsIn, new_seat_view}, cpu_workers.specs.declared.counting.AddOne.AddOne}
 use Rattle.{cpu_workers.specs.{declared.counting.counted.Counted.Counted, Reports.Both}, boot.specs.declared.locks.LockKind.LockKind}
 
--- what adding 1 means: the number rises by 1 modulo 2^64, the result is the number before, and any
+-- what adding 1 means: the number rises by 1 modulo 2^64, and the result is the number before; any
 -- CPU may do it at any time
 abbrev pub counting : Rules AddOne ℕ ℕ
 counting = record { edited = λ edit number. (number + 1) % 2 ^ 64; answer = λ edit number. number; allowed = λ opening past s. Unit {0} }

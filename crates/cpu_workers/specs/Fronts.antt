@@ -7,8 +7,8 @@ use Rattle.{cpu.specs.{Cpus.of_thread, Linear.ComesBefore, Wakeups.Lost.IsWorked
 use Rattle.cpu.specs.Table.{Choice.guest_after, Setups.{Call, Private, Setup, has_none, program_of, stands_at, thread_at}}
 use Rattle.cpu_workers.specs.{Laws.OrderGoesOn, Orders.{IsTraceOf, effects_of}}
 
--- the state up to which a thread's calls have taken effect: its present state, or the one in which
--- the call will leave it that it is inside
+-- the state up to which a thread's calls have taken effect: its present state, or that in which its
+-- call under way will leave it
 abbrev pub come_to : Setup → Private → Tid → Option Call → State
 come_to setup p t None = (thread_at p t).guest
 come_to setup p t (Some call) =

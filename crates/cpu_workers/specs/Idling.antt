@@ -2,8 +2,8 @@
 use Rattle.std.specs.Prelude.{ℕ, ◌==◌, ◌-◌, Bool, true, false, List, [], Option, None, if◌then◌else◌}
 use Rattle.{event_log.specs.declared.ids.Tid.Tid, cpu_workers.specs.declared.pauses.TheConstants.SPINS}
 
--- how many polls are left after a turn that left the CPU in a section, or in none: in a section one
--- less, or one if none was left; in none all of them
+-- How many polls are left after a turn. In a section it is one less, or one if none was left.
+-- Outside of sections it is all of them.
 abbrev pub spins_left : Bool → ℕ → ℕ
 spins_left true left = if left == 0 then 1 else left - 1
 spins_left false left = SPINS

@@ -16,15 +16,15 @@ pub record CpuReport : Type 0 where
   pub taken : ℕ
   pub stop : Stop
 
--- a report as plain data: the traces, the turns taken and the stops of all CPUs, and the block of
--- each lock, in the step table's form of blocks
+-- a report as plain data: the traces, the turns taken and the stops of all CPUs, and each lock's
+-- block, in the step table's form
 pub record ShownReport : Type 0 where
   pub traces : List (List Entry)
   pub taken : List ℕ
   pub stops : List Stop
   pub blocks : LockId → Option Block
 
--- the report has this line at the CPU's number
+-- the report has this row at the CPU's number
 pub record IsCpuReportOf (r : ShownReport) (c : CpuId) (line : CpuReport) : Type 0 where
   pub trace : slice_get r.traces c.0 ≡ Some line.trace
   pub taken : slice_get r.taken c.0 ≡ Some line.taken
@@ -50,10 +50,12 @@ pub record EndsAt (setup : Setup) (t : Tid) (entries : List Entry) : Type 0 wher
   pub calls : IsProgramsCalls (program_of setup t) (reverse entries) state
   pub ends : HasEnded (program_of setup t) state
 
--- the row of a CPU is true: its trace is within its room, each entry is of a home thread, and a
--- thread's entries are its program's calls. It stopped with `AllEnded` only if all programs of home
--- threads have ended, with `TurnsUsed` only after its turns, and with `Held` only if the gate may
--- have held it.
+-- The row of a CPU is true:
+-- - Its trace is within its room, each entry is of a home thread, and a thread's entries are its
+--   program's calls.
+-- - It stopped with `AllEnded` only if all programs of home threads have ended.
+-- - It stopped with `TurnsUsed` only after its turns, and with `Held` only if the gate may have
+--   held it.
 pub record ReportsTrue (setup : Setup) (May : Go → ℕ → Type 0) (turns : ℕ) (c : CpuId) (line : CpuReport) : Type 0 where
   pub room : length line.trace ≤ setup.trace_room
   pub stays : AllByRecursion (IsOfHome setup.homes c) line.trace
@@ -76,13 +78,13 @@ pub record IsReport (setup : Setup) (May : CpuId → Go → ℕ → Type 0) (tur
   pub fifo : IsFirstInFirstOut order (left_in (length setup.caps) r)
   pub each : (c : CpuId) → c.0 < setup.cpus → (line : CpuReport) × IsCpuReportOf r c line × ReportsTrue setup (May c) turns c line
 
--- A CPU went along this list of actions by the step table: from boot to its last state, in exactly
--- as many steps as its row reports. At the end no section of the CPU is under way.
+-- A CPU went along this list of actions by the step table. It went from boot to its last state, in
+-- exactly as many steps as its row reports. At the end no section of the CPU is under way.
 --
 -- Between two sections it took a turn only below so many, and only if the gate may have let it pass
--- at each turn so far. The gate was asked with the number of turns taken. If the CPU was held, it
--- took no such turn after a `Limit`. The gate was asked before each turn, also inside a section,
--- until it returned `Limit`. If all turns are used, it let the CPU pass at each.
+-- at each turn. The gate was asked with the number of turns taken. If the CPU was held, it took no
+-- such turn after a `Limit`. The gate was asked before each turn, also inside a section, until it
+-- returned `Limit`. If all turns are used, it may have let the CPU pass at each.
 --
 -- The row has the CPU's trace, and its stop is true of the CPU's last state.
 pub record HasGone (setup : Setup) (May : Go → ℕ → Type 0) (turns : ℕ) (c : CpuId) (log : List (Action Name)) (line : CpuReport) : Type 0 where

@@ -22,8 +22,8 @@ pub record IsNewCaller (caps : List ℕ) (c : CpuId) (caller : CallerView) : Typ
   pub caps_are : caller.caps ≡ caps
   pub fresh : caller.calls ≡ []
 
--- a caller has left its machine, which has seen these actions: its calls are its CPU's effects in
--- them, once each and in order, and at most `MOST_CALLS`; and no section of the CPU is under way
+-- A caller has left its machine, which has seen these actions. Its calls are its CPU's effects in
+-- them, once each and in order, and at most `MOST_CALLS`. No section of the CPU is under way.
 pub record HasLeftMachine (caller : CallerView) (acts : List (Action TowerName)) (site : List ℕ) : Type 0 where
   pub site_is : site ≡ caller.site
   pub few : length caller.calls ≤ MOST_CALLS
@@ -45,8 +45,8 @@ pub record HasLeftCalls {N : Type 0} (Kept : N → N → CallerView → Type 0) 
   pub trace : IsTraceOf c caps acts caller.calls
   pub rests : is_in_section (phase c acts) ≡ false
 
--- the locks of the tower open for so many CPUs: an empty queue for each, with the home of each
--- thread, and an empty buffer of each capacity under a free lock
+-- the locks of the tower open for so many CPUs: an empty queue for each, with all threads' homes,
+-- and an empty buffer of each capacity under a free lock
 pub record OpensWith (cpus : ℕ) (caps : List ℕ) (homes : List CpuId) (opening : LockId → Option AnyBlock) : Type 0 where
   pub starts : StartsWell opening
   pub homes_are : homes_in opening ≡ homes
@@ -68,8 +68,8 @@ pub record HasRunNative {N : Type 0} (Kept : N → N → CallerView → Type 0) 
 abbrev pub own_homes : ℕ → List CpuId
 own_homes n = listed cpu_at 0 n
 
--- this order is that of the effects of the releases in one log of words, which is legal over the
--- locks as they open for so many CPUs
+-- This order is that of the effects of the releases in one log of words. The log is legal over the
+-- locks as they open for so many CPUs.
 pub record IsOrderOfWords (cpus : ℕ) (caps : List ℕ) (homes : List CpuId) (order : List Entry) : Type 0 where
   pub opening : LockId → Option AnyBlock
   pub opens : OpensWith cpus caps homes opening

@@ -21,8 +21,9 @@ pub record FollowsProgram (program : List Instruction) (entries : List Entry) (e
   pub calls : IsProgramsCalls program (reverse entries) state
   pub ends : ended ≡ true → HasEnded program state
 
--- the threads of a worker have followed their programs: its trace has no more entries than its
--- room, each is of a home thread, and each home thread has a program, whose calls its entries are
+-- The threads of a worker have followed their programs. The worker's trace has no more entries than
+-- its room, and each is of a home thread. Each home thread has a program, whose calls its entries
+-- are.
 pub record HasFollowed (w : Working) : Type 0 where
   pub room : length w.private.trace ≤ w.plan.limit
   pub stays : AllByRecursion (IsOfHome w.plan.homes w.cpu) w.private.trace

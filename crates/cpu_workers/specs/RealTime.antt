@@ -1,4 +1,4 @@
--- Real time, as Herlihy and Wing define it: at each moment, a call that has returned is in the
+-- Real time, as Herlihy and Wing define it. At each moment, a call that has returned is in the
 -- order before each call that has not begun.
 use Rattle.std.specs.Prelude.{◌≡◌, ℕ, ◌+◌, ◌-◌, ◌<◌, ◌≤◌, List, ◌++◌, length, reverse, take, Option, Some, None, slice_get, if◌then◌else◌}
 use Rattle.event_log.specs.{declared.{entries.Entry.Entry, ids.{CpuId.CpuId, Tid.Tid}}, Actions.Action}
@@ -35,8 +35,8 @@ pub record StandsAt (c : CpuId) (t : Tid) (i : ℕ) (order : List Entry) (place 
   pub thread : entry.thread.0 ≡ t.0
   pub before : length (thread_entries c t (take place order)) ≡ i
 
--- at each prefix of linearizable actions: if call i of one thread has returned and call j of
--- another has not begun, then i's place is before j's in the order of all calls
+-- The theorem, at each prefix of linearizable actions. If call i of one thread has returned and
+-- call j of another has not begun, then i is before j in the order of all calls.
 abbrev pub ReturnedComeFirst : Type 0
 ReturnedComeFirst = (setup : Setup) (acts later earlier : List (Action TowerName)) → (linear : AreLinearizable setup acts) → (is : acts ≡ later ++ earlier)
     → (c d : CpuId) (here : c.0 < setup.cpus) (there : d.0 < setup.cpus) (t u : Tid) (i j p q : ℕ)

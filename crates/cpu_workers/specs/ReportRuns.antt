@@ -20,7 +20,7 @@ pub record StandsAsTold (setup : Setup) (May : Go → ℕ → Type 0) (turns : �
   pub rests : is_in_section (phase c run.log) ≡ false
   pub stop : IsTrueStop (halted_at setup c private) (May Limit) turns line.taken line.stop
 
--- a report of a run: under some schedule of the setup's CPUs, each of whose steps is taken, the
+-- A report of a run. Under some schedule of the setup's CPUs, each of whose steps is taken, the
 -- step table's system has the report's traces. Its CPUs are in the states that the report gives,
 -- and the report's blocks are what the run leaves.
 pub record IsReportOfRun (setup : Setup) (May : CpuId → Go → ℕ → Type 0) (turns : ℕ) (r : ShownReport) : Type 0 where

@@ -1,5 +1,5 @@
--- The workers of a plan at one table: their actions in terms of the layers' names, what each has
--- done, and the blocks that they leave.
+-- The workers of a plan at one table: their actions under the layers' names, what each has done,
+-- and the blocks that they leave.
 use Rattle.std.specs.Prelude.{◌≡◌, ℕ, List, [], map, length, slice_get, Option, Some, IsSome, ◌<◌}
 use Rattle.{boot.specs.Plan.BootPlan, event_log.specs.declared.{entries.Entry.Entry, ids.{BufId.BufId, CpuId.CpuId, LockId.{LockId, TheVariants.Pending}}}}
 use Rattle.{event_log.specs.{Actions.{Action, AreLegal, acts_of, renamed}, Messages.Message}, layer_traits.specs.declared.queue_edits.QueueBlock.QueueBlock}
@@ -21,8 +21,8 @@ AnyBlock = QueueBlock LockBlock
 abbrev pub tower_acts : List (Action Edit) → List (Action TowerName)
 tower_acts acts = map (renamed (renamed_edit lock_call)) (map (renamed (renamed_edit slept_edit)) acts)
 
--- the locks of the tower open as a plan says: an empty queue for each CPU, with the home of each
--- thread, and an empty buffer of each capacity under a free lock
+-- The locks of the tower open as a plan says. There is an empty queue for each CPU, with the home
+-- of each thread. There is an empty buffer of each capacity under a free lock.
 pub record OpensPlan (plan : BootPlan) (opening : LockId → Option AnyBlock) : Type 0 where
   pub starts : StartsWell opening
   pub homes : homes_in opening ≡ homes_for plan
@@ -38,9 +38,9 @@ pub record IsReadySeat (Acts Rests Unseen Idle Opens : Type 0) : Type 0 where
   pub idle : Idle
   pub opens : Opens
 
--- a tower's machine for the worker of one CPU of a plan, in which nothing was done: it is fresh,
--- has the plan's homes and capacities, has seen no effect and no action, and each of its buffers
--- opens empty
+-- A tower's machine for the worker of one CPU of a plan, in which nothing was done. It is fresh,
+-- has the plan's homes and capacities, and has seen no effect and no action. Each of its buffers
+-- opens empty.
 pub record IsUnused (Fresh Homes Caps Unseen Idle Opens : Type 0) : Type 0 where
   pub fresh : Fresh
   pub homes : Homes

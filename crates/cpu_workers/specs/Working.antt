@@ -12,8 +12,8 @@ pub record Charge : Type 0 where
   pub programs : List (Option (List Instruction))
   pub limit : ℕ
 
--- a worker to its callers: its CPU, its plan, the CPU's private state in the step table, the
--- actions that the CPU has seen, newest first, and which machine it is
+-- A worker as its callers see it: its CPU, its plan, and the CPU's private state in the step table.
+-- Further it has the actions that the CPU has seen, newest first, and which machine it is.
 pub record Working : Type 0 where
   pub cpu : CpuId
   pub plan : Charge
@@ -53,7 +53,7 @@ pub data TookTurns (old : Working) : ℕ → Working → Type 0 where
   no_turns : TookTurns old 0 old
   one_more : {k : ℕ} {now new : Working} → TookTurns old k now → IsSame now new → Turned now new Stepped → TookTurns old (k + 1) new
 
--- the step table takes a step of the worker's CPU, whatever other CPUs do before it: a section of
--- it is under way, or it is not halted
+-- The step table takes a step of the worker's CPU, whatever other CPUs do before it. A section of
+-- it is under way, or it is not halted.
 abbrev pub MayStep : Setup → Working → Type 0
 MayStep setup w = busy_step_answer (is_inside w) (halted_at setup w.cpu w.private) ≡ Stepped

@@ -52,8 +52,8 @@ value_at option rows = unwrap_or (first_of (option_name option) rows) []
 abbrev pub is_command : Text → Bool
 is_command name = bytes_eq name (codes "count") || (bytes_eq name (codes "run") || (bytes_eq name (codes "threads") || bytes_eq name (codes "check")))
 
--- this is wrong with a command, according to its name and its values: no command has the name, or
--- an option is the first with a value that it does not take
+-- This is wrong with a command, according to its name and its values. No command has the name, or
+-- an option is the first with a value that it does not take.
 abbrev pub IsFaultIn : Text × List Row → LineFault → Type 0
 IsFaultIn found NoCommand = is_command found.0 ≡ false
 IsFaultIn found (Value option shown) = (first_bad found ≡ Some option) × (shown.bytes ≡ shown_line (value_at option found.1))
@@ -64,8 +64,8 @@ abbrev pub IsShown : Text → Type 0
 IsShown text = (length text ≤ 200) × All (λ byte. byte ≢ 10) text
 
 -- This is wrong with the words. Either clap's rules find a fault of this kind, which is no request
--- for help or for the version, and what clap names may be shown in a line. Or they find none, and
--- no command is named, or the value of an option is the first that it does not take.
+-- for help or the version, and what clap names fits in a line. Or they find none, and no command is
+-- named, or the value of an option is the first that it does not take.
 abbrev pub IsFault : List Text → LineFault → Type 0
 IsFault words (Words kind named) = IsAmong kind (faults_of words) × (kind ≢ DisplayHelp) × (kind ≢ DisplayVersion) × IsShown named.bytes
 IsFault words NoCommand = (is_taken words ≡ true) × IfSome (found_in words) (λ found. is_command found.0 ≡ false)

@@ -1,4 +1,4 @@
--- What a printed text states, in terms of buffers and programs only: a legal history of FIFO
+-- What a printed text states, in terms of buffers and programs only. It is a legal history of FIFO
 -- buffers, in which each thread makes its program's calls. No definition here mentions the step
 -- table.
 use Rattle.std.specs.{Prelude.{◌≡◌, ℕ, List, Some, Result}, List.AllByRecursion}

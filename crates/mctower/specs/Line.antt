@@ -103,8 +103,8 @@ abbrev pub is_faultless : Kinds → Bool
 is_faultless [] = true
 is_faultless (kind ∷ kinds) = false
 
--- the kinds of fault that clap's rules find in the words, one of which is the kind of an error; a
--- request for help or for the version counts as one
+-- The kinds of fault that clap's rules find in the words. An error has one of these kinds. A
+-- request for help or for the version counts as a fault.
 unfoldable pub faults_of : List Text → Kinds
 faults_of words = fault_of program words
 
@@ -129,8 +129,8 @@ Reads ghost_of (Ok order) = ghost_of ≡ Some (ghost_by order)
 Reads ghost_of (Err (NoMemory refused)) = Unit {0}
 Reads ghost_of (Err Refused) = ghost_of ≡ None
 
--- clap's parse takes the words exactly if its rules do, unless memory ran out, and finds their
--- command and values; else it names a fault according to these rules
+-- Unless memory ran out, clap's parse accepts the words exactly if its rules do, and finds their
+-- command and values. Else it names a fault according to these rules.
 abbrev pub Parses : List Text → Result ArgMatches Error → Type 0
 Parses words (Ok matches) = (is_taken words ≡ true) × (subcommand_rows_of matches ≡ found_in words)
 Parses words (Err error) = HasKind (faults_of words) error

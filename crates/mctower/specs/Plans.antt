@@ -21,8 +21,8 @@ pub record IsSystemOf (plan : BootPlan) (s : Shown) : Type 0 where
 abbrev pub table_run : BootPlan → List CpuId → Whole
 table_run plan steps = after_steps (setup_for plan) steps (whole_at_boot (setup_for plan) (length steps))
 
--- the system is the plan's before its first step, with room for so many steps: each home CPU has
--- its threads' guests, all at their start
+-- The system is the plan's before its first step, with room for so many steps. Each home CPU has
+-- its threads' guests, all at their start.
 pub record IsOpened (plan : BootPlan) (room : ℕ) (s : Shown) : Type 0 where
   pub system : IsSystemOf plan s
   pub guests : map (λ p. p.guests) s.cpus ≡ tables_for plan

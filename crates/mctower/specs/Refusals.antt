@@ -47,9 +47,9 @@ status_of_refusal WriteFault = 1
 status_of_refusal BadSchedule = 2
 status_of_refusal (Plan error) = 1
 
--- The report of an error for these words is written and flushed: what is wrong with them if they
--- are no command line; for a plan the line that reports why it is rejected; else a line with the
--- error's name and number. If the sink failed, a prefix is written.
+-- The report of an error for these words is written and flushed. It is what is wrong with them if
+-- they are no command line, and for a plan why it is rejected. Else it is a line with the error's
+-- name and number. If the sink failed, a prefix is written.
 abbrev pub PutsRefusal : List Text → Refusal → Output → Type 0
 PutsRefusal words (BadLine fault) out = IsTold out (fault_text words fault)
 PutsRefusal words (NoMemory refused) out = IsTold out (codes "error: NoMemory(1)\n")

@@ -11,9 +11,9 @@ use Rattle.boot.specs.declared.locks.LockKind.TheVariants as kind
 
 -- The system of a plan, after a schedule's steps: it was opened with room for exactly these and
 -- took them in their order. The plan determines its setup of the step table. If its machine does
--- one action a step, it is the step table's system of the plan after them, no wake-up is lost, and
--- its observers return what the table has. The invariants that hold after every list of steps hold
--- of it.
+-- one action a step, it is the step table's system of the plan after them, and no wake-up is lost.
+-- Its observers then return what the table has. The invariants that hold after every list of steps
+-- hold of it.
 pub record IsRunOf (IsStepwise : Type 0) (plan : BootPlan) (steps : List CpuId) (s : Shown) : Type 0 where
   pub start : Shown
   pub opened : IsOpened plan (length steps) start
@@ -47,8 +47,8 @@ pub record IsPrinted (IsStepwise : Type 0) (plan : BootPlan) (steps : List CpuId
   pub in_time : (b : ℕ) → on_buffer b out.is.order ≡ on_buffer b s.order
   pub table : IsStepwise → IsTextOfRun plan steps out.text
 
--- the result of a run of a plan: a step of a CPU that the plan does not have is rejected before
--- anything is written; else the plan's system takes the steps, and its text is written
+-- The result of a run of a plan. A step of a CPU that the plan does not have is rejected before
+-- anything is written. Else the plan's system takes the steps, and its text is written.
 abbrev pub RunsPlan : Type 0 → BootPlan → List CpuId → Result Shown Fault → Output → Type 0
 RunsPlan IsStepwise plan steps (Ok s) out = (out.failed ≡ false) × IsPrinted IsStepwise plan steps s out
 RunsPlan IsStepwise plan steps (Err (NoMemory refused)) out = IsUntouched out
@@ -68,8 +68,8 @@ Refuses e (Err BadCpu) out = ⊥
 Refuses e (Err NoOrder) out = ⊥
 Refuses e (Err WriteFault) out = ⊥
 
--- the result of a run of a text over these layers, by the plan that the text gives or its first
--- fault, unless memory ran out
+-- the result of a run of a text over these layers, by the text's plan or its first fault, unless
+-- memory ran out
 abbrev pub RunsTextOn : Type 0 → Result BootPlan BootError → List CpuId → Result Shown Fault → Output → Type 0
 RunsTextOn IsStepwise (Ok plan) steps result out = RunsPlan IsStepwise plan steps result out
 RunsTextOn IsStepwise (Err e) steps result out = Refuses e result out

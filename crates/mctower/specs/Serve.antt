@@ -31,8 +31,8 @@ status_of (Err refusal) = status_of_refusal refusal
 abbrev pub RefusedBy : Refusal → Result Done Refusal → Output → Type 0
 RefusedBy refusal answer out = (answer ≡ Err refusal) × IsUntouched out
 
--- the text is written and flushed, and the result is that this is done; or the output failed, a
--- prefix of the text is written, and that is the result
+-- The text is written and flushed, and the result is that this is done. Or the output failed, a
+-- prefix of the text is written, and that is the result.
 abbrev pub Puts : Done → List ℕ → Result Done Refusal → Output → Type 0
 Puts done text answer out = (answer ≡ (if out.failed then Err WriteFault else Ok done)) × IsTold out text
 
@@ -82,16 +82,16 @@ Counts cpus times lock answer out = RefusedBy lacks_memory answer out
 
 -- ---- check
 
--- a verdict is printed: a yes with status 0, or a no with the number of the line and the name of
--- the reason with status 3
+-- a verdict is printed: a yes with status 0, or a no with the line's number and the reason's name
+-- with status 3
 abbrev pub PrintsVerdict : Verdict → Result Done Refusal → Output → Type 0
 PrintsVerdict verdict.Yes answer out = Puts (Exit 0) (codes "yes\n") answer out
 PrintsVerdict (verdict.No line reason) answer out =
     Puts (Exit 3) (codes "no " ++ (decimal line ++ (codes " " ++ (reasons.reason_name reason ++ codes "\n")))) answer out
 PrintsVerdict (verdict.NoMemory refused) answer out = RefusedBy lacks_memory answer out
 
--- the verdict on the input is printed, or the input was not read; after a yes the input is the
--- trace text of a run, and of what the run leaves
+-- The verdict on the input is printed, or the input was not read. After a yes the input is the
+-- trace text of a legal history, and of what that leaves.
 abbrev pub Checks : Option (List ℕ) → Result Done Refusal → Output → Type 0
 Checks input answer out = RefusedBy lacks_memory answer out
     ⊎ (RefusedBy ReadFault answer out
@@ -205,9 +205,10 @@ Serves words (Some (threads turns)) input answer out = OfInput (WorksPlan turns)
 
 -- ---- standard error
 
--- what is written to standard error and flushed, by the result for these words: the state lines
--- after a successful run, why each worker stopped after one in threads, nothing after a yes, a no,
--- a count, the help or the version; else the report of the error
+-- What is written to standard error and flushed, by the result for these words:
+-- - after a successful run the state lines, and after one in threads why each worker stopped;
+-- - after a yes, a no, a count, the help or the version nothing;
+-- - else the report of the error.
 abbrev pub Reports : List Text → Result Done Refusal → Output → Type 0
 Reports words (Ok (Exit status)) out = IsUntouched out
 Reports words (Ok (BothCounted plain table)) out = IsUntouched out

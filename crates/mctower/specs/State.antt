@@ -12,10 +12,11 @@ places_in state = take state.threads state.places
 abbrev pub text_of_state : State → List ℕ
 text_of_state state = state_text state.halted.items (places_in state) state.is_quiet
 
--- What is reported of a system is true: why each CPU is halted, where each thread is, and that it
--- is quiet exactly by the definition. If its machine does one action a step, it is reported quiet
--- exactly if the step table has it quiet. Then no thread can make progress: no live thread has a
--- next call that its buffer allows, no thread owns the lock of a buffer, and none sleeps at one.
+-- What is reported of a system is true: why each CPU is halted, and where each thread is. It is
+-- reported quiet exactly if it is quiet (quiescent). If its machine does one action a step, it is
+-- reported quiet exactly if the step table has it quiet. Then no thread can make progress. No live
+-- thread has a next call that its buffer allows, no thread owns the lock of a buffer, and none
+-- sleeps at one.
 pub record IsStateOf (IsStepwise : Type 0) (s : Shown) (state : State) : Type 0 where
   pub halted : state.halted.items ≡ listed (λ c. halted_in (record { 0 = c }) s) 0 (length s.cpus)
   pub count : state.threads ≡ length s.homes

@@ -1,4 +1,4 @@
--- What a run reports, in terms of the step table's system only: the trace text of a plan after a
+-- What a run reports, in terms of the step table's system only: a plan's trace text after a
 -- schedule's steps, and its state lines.
 use Rattle.std.specs.Prelude.{◌≡◌, ◌↔◌, ℕ, true, List, [], length, map, Option, Some, None, slice_get}
 use Rattle.event_log.specs.{declared.{entries.Entry.Entry, ids.{CpuId.CpuId, LockId.TheVariants.Buffer as AtBuffer}}, Actions.phase, Messages.Message}

@@ -5,7 +5,7 @@ use Rattle.{event_log.specs.{declared.entries.Entry.Entry, Messages.Message, Run
 use Rattle.{tracer.specs.TraceText.IsTraceText, boot.specs.Plan.{BootPlan, IsPlan}, cpu.specs.{Boots.homes_for, Cpus.IsOfHome}}
 use Rattle.mctower.specs.{declared.run.run_faults.Fault.{Fault, TheVariants.{NoMemory, Boot, BadCpu, NoOrder, WriteFault}}, Output.{IsPut, IsUntouched, Output}}
 
--- These traces have a text with what is left: they are one of each CPU of a plan with these
+-- These traces have a text with what is left. They are one of each CPU of a plan with these
 -- capacities, each within its room and of its CPU's home threads. They have an order that keeps
 -- each of them, is a legal history and ends in what is left.
 pub record HaveText (caps : List ℕ) (traces : List (List Entry)) (left : List (List Message)) : Type 0 where
@@ -19,9 +19,9 @@ pub record HaveText (caps : List ℕ) (traces : List (List Entry)) (left : List 
   pub keeps : IsInterleaving traces order
   pub runs : IsRun caps order left
 
--- the text is the trace text of these capacities, of these traces in the one order that takes the
--- first trace that is ready, and of what is left; and that order is a legal history that ends in
--- what is left
+-- The text is the trace text of these capacities, of these traces in one order, and of what is
+-- left. The order always takes the first trace that is ready. It is a legal history that ends in
+-- what is left.
 pub record IsTextOf (caps : List ℕ) (traces : List (List Entry)) (left : List (List Message)) (text : List ℕ) : Type 0 where
   pub order : List Entry
   pub keeps : IsOrder traces order

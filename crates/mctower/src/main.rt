@@ -47,7 +47,7 @@ fn main(rt: HostRuntime) -> ExitCode {
     }
 }
 
-/// Returns why the words could not be had, by the kind of the error: a word that is no UTF-8 text
+/// Returns why the words could not be had, by the kind of the error. A word that is no UTF-8 text
 /// makes a bad command line.
 fn words_refused(kind: io::ErrorKind) -> Refusal
     ensures { result ≡ words_refused kind }

@@ -74,8 +74,9 @@ pub record Seen : Type 0 where
 abbrev pub fresh : ℕ → Seen
 fresh capacity = record { capacity = capacity; items = []; ops = 0; sends = 0; recvs = 0; closes = 0 }
 
--- the judge's progress in the text: which line is expected, the version of the head, the lowest
--- version that can spell the entries so far, the buffers, and how many entries there were
+-- The judge's progress in the text: which line is expected, and the version of the head. Further it
+-- has the lowest version that can spell the entries so far, the buffers, and how many entries there
+-- were.
 pub record TextProgress : Type 0 where
   pub at : NextLine
   pub version : Version

@@ -161,9 +161,9 @@ fn closed<K: TableWords, N: Drop>(
     }
 }
 
-/// Runs natives, each in its own thread and on its own CPU, over one table of shared words with
-/// a buffer of each of these capacities. Returns the natives, in their order, with what is left in
-/// the buffers. The locks of the table are ticket locks.
+/// Runs natives, each in its own thread and on its own CPU. They share one table of shared words
+/// with a buffer of each of these capacities. Returns the natives, in their order, with what is
+/// left in the buffers. The locks of the table are ticket locks.
 ///
 /// Each native calls as the thread of its CPU's number, and keeps what it promises of itself and of
 /// its calls. The calls of all have one order. It keeps each native's order, is a legal history of
@@ -176,8 +176,8 @@ fn closed<K: TableWords, N: Drop>(
 /// Requires: from 1 to `CPUS` natives, at most `BUFFERS` buffers, each for 1 to `CAPACITY`
 /// messages, and the buffers are as each native requires.
 ///
-/// Errors: `NoMemory` if an allocation failed, and `NoThread` if a thread could not be started;
-/// then no call was made, and the threads that were started are joined.
+/// Errors: `NoMemory` if an allocation failed, and `NoThread` if a thread could not be started.
+/// Then no call was made, and the threads that were started are joined.
 pub fn run_native<N: Native + Drop + Send, R: Threads + Wait + Sync>(
     rt: &R,
     alloc: Global,

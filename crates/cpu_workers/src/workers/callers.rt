@@ -27,8 +27,8 @@ pub struct Closed;
 
 /// One native thread that sends to buffers and receives from them, on its own CPU. It has that
 /// CPU's part of the layer of message calls, and a private side of the machine. A contract sees it
-/// as plain data: which CPU and thread it is, the buffers' capacities, which machine, and the
-/// entries of its calls so far, oldest first.
+/// as plain data: which CPU and thread it is, the buffers' capacities, which machine, and its
+/// calls' entries, oldest first.
 #[derive(Drop)]
 pub struct Caller<I: CallLayer<IpcLaw> + Drop>
 where
@@ -176,8 +176,8 @@ where
     }
 
     /// Returns the machine of a caller that makes no more calls. If one poll is one action, the
-    /// caller's calls are its CPU's effects in the actions that the machine has seen, once each and
-    /// in order. No section of the CPU is then under way.
+    /// caller's calls are, once each and in order, its CPU's effects in the machine's actions. No
+    /// section of the CPU is then under way.
     pub fn into_machine(self) -> I::Machine
         ensures owns { I.ActsFor result self.cpu }
         ensures site { I.site result ≡ self.site }

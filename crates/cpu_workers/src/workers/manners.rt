@@ -145,7 +145,7 @@ impl Manners {
         self.after(worker.part(), worker.machine(), spins)
     }
 
-    // Does what a CPU does after a turn, or after a poll of a caller: it polls its lock again,
+    // Does what a CPU does after a turn, or after a poll of a caller. The CPU polls its lock again,
     // yields the processor, or waits before it requests a buffer's lock. Returns how many polls are
     // left before it yields.
     #[inline(always)]

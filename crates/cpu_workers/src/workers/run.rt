@@ -200,15 +200,15 @@ fn run_words<K: PlanWords + Sync, G: Gate + Sync, R: Threads + Wait + Sync>(
 /// Runs a plan with a worker thread for each CPU, each at its own seat at one table of shared
 /// words, under a gate. The locks of the table are of the plan's kind.
 ///
-/// A worker stops between two of its sections, as [`crate::work`] says: if its CPU is halted, if
-/// the gate has returned `Limit`, or if `turns` turns are taken. Between two sections it takes a
-/// turn only below `turns`, and only if the gate may have returned `Pass` at each turn so far. The
-/// gate is asked with the number of turns taken before each turn, also inside a section, until it
-/// returns `Limit`. It is not asked at turns for which it has granted that it is open. If it may
-/// not have returned `Pass` at each turn, no worker stops as `TurnsUsed`.
+/// A worker stops between two of its sections, as [`crate::work`] says. It stops if its CPU is
+/// halted, if the gate has returned `Limit`, or if `turns` turns are taken. Between two sections it
+/// takes a turn only below `turns`, and only if the gate may have returned `Pass` at each turn so
+/// far. The gate is asked with the number of turns taken before each turn, also inside a section,
+/// until it returns `Limit`. It is not asked at turns for which it has granted that it is open. If
+/// it may not have returned `Pass` at each turn, no worker stops as `TurnsUsed`.
 ///
 /// The report is lawful under the plan's step table. Its list of actions, and the order of its
-/// traces, are those of one log of words, which is legal over the locks as the plan opens them.
+/// traces, are those of one log of words. That log is legal over the locks as the plan opens them.
 /// Under some schedule the step table's system leaves exactly what the report gives. The report is
 /// of a table of shared words that was closed, whose locks are of the plan's kind and whose blocks
 /// these are.
@@ -216,8 +216,8 @@ fn run_words<K: PlanWords + Sync, G: Gate + Sync, R: Threads + Wait + Sync>(
 /// It waits for its workers, so it need not return. All memory is taken and all workers are known
 /// to have started before any step is taken.
 ///
-/// Errors: `NoMemory` if an allocation failed, and `NoThread` if a thread could not be started;
-/// then no step was taken, and the threads that were started are joined.
+/// Errors: `NoMemory` if an allocation failed, and `NoThread` if a thread could not be started.
+/// Then no step was taken, and the threads that were started are joined.
 pub fn run_workers<G: Gate + Sync, R: Threads + Wait + Sync>(
     rt: &R,
     alloc: Global,

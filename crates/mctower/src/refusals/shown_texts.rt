@@ -21,8 +21,8 @@ fn first_line(text: &str) -> &str
     }
 }
 
-/// Returns a text as it is shown in a line: what is before its first line feed, or two dots if that
-/// is longer than 200 bytes.
+/// Returns a text as it is shown in a line: its part before the first line feed, or two dots if
+/// that is longer than 200 bytes.
 pub(crate) fn shown(text: &str) -> Shown
     ensures { result.bytes ≡ shown_line text.now }
 {

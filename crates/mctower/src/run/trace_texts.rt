@@ -26,7 +26,7 @@ pub fn runs_have_one_text()
     ensures { RunsHaveOneText }
 {}
 
-/// A law, simulation: what a run of a plan in threads prints, a run of the plan prints under some
+/// A law, simulation. What a run of a plan in threads prints, a run of the plan prints under some
 /// schedule of its CPUs, however its workers' actions interleave.
 pub fn threads_print_a_run()
     ensures { ThreadsPrintARun }

@@ -121,16 +121,19 @@ fn work_bytes<O: Write, T: Threads + Wait + Sync>(
 
 /// Runs the plan on the input with a worker thread for each CPU. A worker stops after so many turns
 /// at the latest, or once the section has ended that is then under way. The trace text is written
-/// and flushed: the plan's capacities, the entries of all CPUs in one order, and what the buffers
-/// hold at the end.
+/// and flushed: the plan's capacities, all CPUs' entries in one order, and what the buffers hold at
+/// the end.
 ///
 /// It waits for the workers, so it need not return.
 ///
 /// Requires: `out` has not failed.
 ///
-/// Errors: `NoMemory` and `ReadFault` if the input could not be read; the fault of a rejected plan;
-/// `NoMemory` and `NoThread` if no worker took a step; `WriteFault` if the sink failed, and then a
-/// prefix of the text is out. Before any other error nothing was written.
+/// Errors: before any error except `WriteFault` nothing was written.
+///
+/// - `NoMemory` and `ReadFault` if the input could not be read.
+/// - The fault of a rejected plan.
+/// - `NoMemory` and `NoThread` if no worker took a step.
+/// - `WriteFault` if the sink failed, and then a prefix of the text is out.
 #[inline(never)]
 pub fn serve_threads<R: Read, O: Write, T: Threads + Wait + Sync>(
     rt: &T,

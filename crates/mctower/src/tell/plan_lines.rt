@@ -1,5 +1,5 @@
-//! The line that reports why a plan is rejected: the error's name and number, and the key or the
-//! line of a program at which it is. No call takes memory or waits, unless the sink's writer does.
+//! The line that reports why a plan is rejected: the error's name and number, and its place, a key
+//! or a line of a program. No call takes memory or waits, unless the sink's writer does.
 
 ghost use Rattle.std.specs.Prelude.{◌≡◌, ◌++◌, ◌∷◌, [], codes, decimal, false};
 ghost use Rattle.{tracer.specs.Sinks.has_failed, mctower.specs.{Output.{IsTold, between}, PlanFaults.{fault_name, guest_line, key_line, plan_line}}};
