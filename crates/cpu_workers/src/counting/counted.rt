@@ -32,7 +32,7 @@ pub enum CountedAt {
 
 /// A number that was counted under locks of this kind: how often a lock was released. Each of so
 /// many CPUs did so many sections. [`number_in`] makes it of an owned machine. [`number_left`]
-/// makes it of a closed table whose CPUs each counted in its own thread. For a table at which
+/// makes it of a closed table, each of whose CPUs counted in its own thread. For a table at which
 /// nothing was counted it says that no section was done.
 #[derive(Clone, Copy, Debug, PartialEq, Eq)]
 pub struct Counted {

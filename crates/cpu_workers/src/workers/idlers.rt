@@ -33,7 +33,7 @@ impl Idler {
     }
 
     /// Reads the CPU's bell if no thread runs and no section is under way. A worker calls it before
-    /// each turn, a caller before each poll of a call. Therefore the bell is read before the
+    /// it takes turns, a caller before each poll of a call. Therefore the bell is read before the
     /// section that polls the queue begins.
     #[inline(always)]
     pub(crate) fn before<I: CallLayer<IpcLaw>>(&mut self, part: &I, machine: &I::Machine)
@@ -45,8 +45,9 @@ impl Idler {
         }
     }
 
-    /// Counts a failed poll of an idle CPU. A worker calls it after each turn, a caller after each
-    /// poll of a call. Returns whether the CPU has been idle for so many polls that it may park.
+    /// Counts a failed poll of an idle CPU. A worker calls it after it took turns, a caller after
+    /// each poll of a call. Returns whether the CPU has been idle for so many polls that it may
+    /// park.
     #[inline(always)]
     pub(crate) fn after<I: CallLayer<IpcLaw>>(&mut self, part: &I) -> bool {
         if part.current().is_some() {

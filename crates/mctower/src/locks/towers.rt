@@ -16,8 +16,8 @@ use sleep_wakeup::Sleeper;
 use std::marker::PhantomData;
 
 /// Work over the top of a tower, under a contract that names no layer. The functions that climb the
-/// tower depend only on this trait. Therefore their proofs, which take minutes, stay valid if the
-/// proof of the work changes.
+/// tower depend only on this trait. Therefore their proofs, which take minutes, stay as they are if
+/// the proof of the work changes.
 pub trait OverTower {
     ghost use Rattle.boot.specs.declared.locks.LockKind.{LockKind};
 
