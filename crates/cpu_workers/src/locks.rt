@@ -13,9 +13,9 @@ use plain_machine::{LineWords, Plain};
 use table_machine::TableWords;
 pub use table_machine::{TicketWords, WaiterWords};
 
-/// Calls a function over the words of the lock of a kind. Its first type parameter is `Table` for the
-/// words at a table, which meet [`PlanWords`], or `Line` for those in an owned machine, which meet
-/// [`OnLock`](crate::OnLock). Further type parameters are as written.
+/// Calls a function over the words of the lock of a kind. Its first type parameter is `Table` for
+/// the words at a table, which meet [`PlanWords`]. It is `Line` for those in an owned machine,
+/// which meet [`OnLock`](crate::OnLock). Further type parameters are as written.
 ///
 /// ```text
 /// by_kind!(boot.lock(), run_words::<Table, G, R>(rt, alloc, boot, turns, gate))
@@ -65,8 +65,8 @@ impl PlanWords for WaiterWords {
     }
 }
 
-/// Locks of one kind: their words in an owned machine, and an owned machine of such words, which each
-/// layer of a tower over it has as its own.
+/// Locks of one kind: their words in an owned machine, and an owned machine of such words. Each
+/// layer of a tower over that machine has it as its own machine.
 pub trait OnLock {
     ghost use Rattle.boot.specs.declared.locks.LockKind.{LockKind};
 

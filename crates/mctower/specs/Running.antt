@@ -76,12 +76,13 @@ RunsTextOn IsStepwise (Err e) steps result out = Refuses e result out
 
 -- ---- over the lock that the plan names
 
--- of what is said of the layers over ticket locks and of those over locks with grant words: what is said of those over this lock
+-- of what is said of the layers over ticket locks and of those over locks with grant words, what is
+-- said of those over this lock
 abbrev pub on_lock : Type 0 → Type 0 → LockKind → Type 0
 on_lock tickets grants kind.Ticket = tickets
 on_lock tickets grants kind.Grant = grants
 
--- the lock beneath a system after a run, by the case of the answer
+-- the lock under a system after a run, by the case of the result
 abbrev pub lock_beneath : {I J M N : Type 0} → RanOver I J M N → LockKind
 lock_beneath (Ticket s) = kind.Ticket
 lock_beneath (Grant s) = kind.Grant
@@ -91,18 +92,18 @@ abbrev pub system_of : {I J M N : Type 0} → RanOver I J M N → Shown
 system_of (Ticket s) = s
 system_of (Grant s) = s
 
--- an answer by its system alone
+-- a result reduced to its system
 abbrev pub system_in : {I J M N : Type 0} → Result (RanOver I J M N) Fault → Result Shown Fault
 system_in (Ok ran) = Ok (system_of ran)
 system_in (Err fault) = Err fault
 
--- where there is a system, this is the lock beneath it
+-- if there is a system, this is the lock under it
 abbrev pub IsOverLock : {I J M N : Type 0} → LockKind → Result (RanOver I J M N) Fault → Type 0
 IsOverLock lock (Ok ran) = lock_beneath ran ≡ lock
 IsOverLock lock (Err fault) = Unit {0}
 
--- What a run of a text answers: the system stands on the lock that the plan names, and the run is one over the layers that stand on it; what is
--- no plan is refused.
+-- The result of a run of a text. The system runs over the lock that the plan names, and the run is
+-- one over the layers over that lock. A text that is no plan is rejected.
 abbrev pub RunsText : {I J M N : Type 0} → (LockKind → Type 0) → Result BootPlan BootError → List CpuId → Result (RanOver I J M N) Fault → Output → Type 0
 RunsText IsStepwise (Ok plan) steps result out = IsOverLock plan.lock result × RunsPlan (IsStepwise plan.lock) plan steps (system_in result) out
 RunsText IsStepwise (Err e) steps result out = Refuses e (system_in result) out

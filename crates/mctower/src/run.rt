@@ -22,7 +22,7 @@ use std::alloc::{AllocError, Global};
 use std::io::Write;
 use tracer::Sink;
 
-/// The system of a plan after a run, by the lock that the plan names: `I` is the top of the layers
+/// The system of a plan after a run, by the lock that the plan names. `I` is the top of the layers
 /// over ticket locks, and `J` of those over locks with grant words.
 #[derive(Drop)]
 pub enum Ran<I: Owned + Drop, J: Owned + Drop>
@@ -36,7 +36,7 @@ where
     Grant(System<J>),
 }
 
-/// Lets the system of a plan take the steps of a schedule, and writes the trace text. Whatever lock
+/// Runs the system of a plan for the steps of a schedule, and writes the trace text. Whatever lock
 /// the plan names, the system runs over the layers that `I` is the top of.
 ///
 /// Requires: the sink has not failed. There are at most `MOST_STEPS` steps.
@@ -68,10 +68,13 @@ where
 ///
 /// Requires: the sink has not failed. There are at most `MOST_STEPS` steps.
 ///
-/// Errors: the first of these. `Boot` if the plan is rejected, and why; `BadCpu` where the
-/// schedule names a CPU that the plan has not; `WriteFault` exactly where the sink failed, and then
-/// a beginning of the text is out. Before any other error nothing was written. `NoMemory` where an
-/// allocation was refused; `NoOrder` never comes, since the traces of a system have an order.
+/// Errors: the first of these. Before any error except `WriteFault` nothing was written.
+///
+/// - `Boot` if the plan is rejected, and why.
+/// - `BadCpu` if the schedule names a CPU that the plan does not have.
+/// - `WriteFault` exactly if the sink failed, and then a prefix of the text is out.
+/// - `NoMemory` if an allocation failed.
+/// - `NoOrder` never occurs, since the traces of a system have an order.
 pub fn run_text<I: Owned + Drop, J: Owned + Drop, W: Write>(
     alloc: Global,
     plan: &str,
@@ -89,7 +92,7 @@ where
     run_read(alloc, &boot, steps, sink)
 }
 
-// What `run_text` does once the plan is read.
+// Does what `run_text` does once the plan is read.
 fn run_read<I: Owned + Drop, J: Owned + Drop, W: Write>(
     alloc: Global,
     boot: &Boot,
