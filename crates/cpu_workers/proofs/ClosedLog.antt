@@ -1,4 +1,4 @@
--- What one legal log of words of the tower's locks implies: its effects may follow each other, and
+-- What one legal words log of the tower's locks implies: its effects may follow each other, and
 -- what its sections leave is the step table's, and in the buffers what its effects leave.
 use Rattle.std.proofs.Common.{◌≡◌, ℕ, suc, ◌<◌, ◌≤◌, List, [], ◌∷◌, length, map, slice_get, slice_index, Option, Some, None, option_map, inl, refl, ap, sym}
 use Rattle.std.proofs.Common.{◌∙◌, subst, arith}

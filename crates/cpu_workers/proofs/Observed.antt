@@ -1,4 +1,4 @@
--- What the workers of a plan left is a lawful report of one log of words.
+-- What the workers of a plan left is a lawful report of one words log.
 use Rattle.std.{proofs.{Common.{ℕ, ◌*◌, ◌^◌, ◌<◌, ◌≤◌, List, refl, sym, subst, arith}, lemmas.Nat.mul-le}, specs.Prelude.{◌≡◌}}
 use Rattle.{boot.specs.Plan.{BootPlan, IsPlan}, event_log.specs.declared.{entries.Entry.Entry, ids.{CpuId.CpuId, LockId.LockId, TheConstants.{CPUS, ENTRIES}}}}
 use Rattle.{event_log.specs.declared.ids.TheConstants.TRACE, layer_traits.specs.Protocols.OneLock.opened, cpu.specs.Sound.setup_for}

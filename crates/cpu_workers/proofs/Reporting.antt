@@ -214,7 +214,7 @@ module _ (setup : Setup) (May : CpuId → Go → ℕ → Type 0) (turns : ℕ) (
       effects_so setup above (opening_starts setup table_view so closes.log closes.legal) so.locks (buffer_opens setup table_view so closes.log closes.legal) c
       earlier (proper_before later earlier (subst (λ l. AreProper (sections_in l)) is (sections_proper setup table_view so closes.log closes.legal)))
 
-  -- and it is that of the closed table's log of words, in the order of whose actions the calls are
+  -- and it is that of the closed table's words log, in the order of whose actions the calls are
   -- linearizable
   pub of_words : IsReportOfWords setup May turns closes.log r
   unfolding lawful report

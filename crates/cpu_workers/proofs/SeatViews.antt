@@ -43,7 +43,7 @@ stopped {c = c} {acts = acts} left =
     ap is_in_section (sym (phase_renamed name_of c acts)) ∙ ap (λ (l : List (Action TowerName)). is_in_section (phase c (named l))) left.apart.acts_are
     ∙ ap (λ (d : CpuId). is_in_section (phase d (named left.last.acts))) (sym (left.ran.same.cpu ∙ left.at_boot.cpu_is)) ∙ left.ran.rests
 
--- what a seat has seen is lawful, and therefore its actions are those of the log of words, whatever
+-- what a seat has seen is lawful, and therefore its actions are those of the words log, whatever
 -- words it represents
 abbrev pub SameActs : (Key → List (Action Edit)) → Type 0
 SameActs acts = (key : Key) → IsLawful (MayCome (tower_rules.allowed (opened key.start))) key.seen → acts key ≡ acts_of edit_of key.seen

@@ -29,7 +29,7 @@ LockBlock = SleepBlock (QBlock BufferState)
 abbrev pub LockOut : Type 0
 LockOut = Outcome (QOut (CvOut BufferOut))
 
--- a log of words of the tower's locks
+-- a words log of the tower's locks
 abbrev pub WordsOfTower : Type 0
 WordsOfTower = List (Event (Mark (QueueEdit LockEdit)))
 
@@ -41,7 +41,7 @@ Key = SeatView (QueueEdit LockEdit) (QueueBlock LockBlock)
 abbrev pub tower_rules : Rules (QueueEdit LockEdit) (QueueBlock LockBlock) (QueueAnswer LockOut)
 tower_rules = queue_rules (nested_rules (busy_rules (cv_rules buffer_monitor_rules))) (nested_moves (busy_rules (cv_rules buffer_monitor_rules)))
 
--- the actions of a log of words, under the names of the layers over it
+-- the actions of a words log, under the names of the layers over it
 abbrev pub acts_in : WordsOfTower → List (Action TowerName)
 acts_in log = map (renamed (renamed_edit lock.lock_call)) (map (renamed (renamed_edit sleep.slept_edit)) (acts_of edit_of log))
 

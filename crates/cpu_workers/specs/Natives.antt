@@ -68,7 +68,7 @@ pub record HasRunNative {N : Type 0} (Kept : N → N → CallerView → Type 0) 
 abbrev pub own_homes : ℕ → List CpuId
 own_homes n = listed cpu_at 0 n
 
--- This order is that of the effects of the releases in one log of words. The log is legal over the
+-- This order is that of the effects of the releases in one words log. The log is legal over the
 -- locks as they open for so many CPUs.
 pub record IsOrderOfWords (cpus : ℕ) (caps : List ℕ) (homes : List CpuId) (order : List Entry) : Type 0 where
   pub opening : LockId → Option AnyBlock

@@ -33,7 +33,7 @@ pub record IsPrintedByRun (plan : BootPlan) (text : List ℕ) : Type 0 where
   pub is : IsTextOfRun plan schedule text
 
 -- The workers of a plan have run, each for so many turns. They left a lawful report, that of one
--- log of words, in the order of whose actions their calls are linearizable. These are its stops,
+-- words log, in the order of whose actions their calls are linearizable. These are its stops,
 -- and this is the text of the plan's capacities, of the report's traces and of what its buffers
 -- hold. In the text's order, for each buffer the values put are, in that order, the values taken,
 -- followed by what is left. The calls of each buffer are in the order in which they took effect, by

@@ -1,4 +1,4 @@
-//! Natives over their private sides of a machine: from before their first calls to what they leave.
+//! Natives over their own sides of a machine: from before their first calls to what they leave.
 
 ghost use Rattle.std.specs.Prelude.{◌≡◌, ℕ, ◌<◌, ◌≤◌, Some, [], All, IfOk, length, slice_get, vec_capacity};
 ghost use Rattle.layer_traits.specs.{Blocks.{Capacities.caps_in, QueueBlocks.{homes_in, inner}, BufferEffects.opening_locks}, Threads.OnePlace.cpu_at};

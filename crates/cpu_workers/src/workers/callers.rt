@@ -26,7 +26,7 @@ pub const MOST_CALLS: u64 = 0x0800_0000_0000_0000;
 pub struct Closed;
 
 /// One native thread that sends to buffers and receives from them, on its own CPU. It has that
-/// CPU's part of the layer of message calls, and a private side of the machine. A contract sees it
+/// CPU's part of the layer of message calls, and its own side of the machine. A contract sees it
 /// as plain data: which CPU and thread it is, the buffers' capacities, which machine, and its
 /// calls' entries, oldest first.
 #[derive(Drop)]
@@ -75,7 +75,7 @@ where
     ghost use Rattle.cpu_workers.specs.{declared.workers.callers.TheConstants.MOST_CALLS, Orders.IsTraceOf};
 
     /// Makes the caller of a thread of this CPU before its first call. Nothing was done in the
-    /// caller's private side of the machine, which has threads of these homes and so many buffers.
+    /// caller's own side of the machine, which has threads of these homes and so many buffers.
     ///
     /// Requires: the machine is fresh for the CPU, and has room at any time.
     pub fn new(

@@ -208,7 +208,7 @@ fn run_words<K: PlanWords + Sync, G: Gate + Sync, R: Threads + Wait + Sync>(
 /// it may not have returned `Pass` at each turn, no worker stops as `TurnsUsed`.
 ///
 /// The report is lawful under the plan's step table. Its list of actions, and the order of its
-/// traces, are those of one log of words. That log is legal over the locks as the plan opens them.
+/// traces, are those of one words log. That log is legal over the locks as the plan opens them.
 /// Under some schedule the step table's system leaves exactly what the report gives. The report is
 /// of a table of shared words that was closed, whose locks are of the plan's kind and whose blocks
 /// these are.

@@ -1,4 +1,4 @@
-//! The workers of a plan, each over its private side of a machine: from before their first turn to
+//! The workers of a plan, each over its own side of a machine: from before their first turn to
 //! what they leave.
 
 ghost use Rattle.std.specs.Prelude.{◌≡◌, ℕ, ◌<◌, ◌≤◌, Some, [], IfOk, length, slice_get, vec_capacity};

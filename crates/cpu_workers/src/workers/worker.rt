@@ -9,7 +9,7 @@ use layer_traits::{CallLayer, IpcLaw, Reason, Step};
 use std::alloc::Global;
 use std::marker::Model;
 
-/// One CPU with its private side of a machine, in which it may act at any time. A contract sees it
+/// One CPU with its own side of a machine, in which it may act at any time. A contract sees it
 /// as plain data: which CPU it is, its plan, and its state in the step table.
 #[derive(Drop)]
 pub struct Worker<I: CallLayer<IpcLaw> + Drop>
@@ -102,7 +102,7 @@ where
     }
 
     /// Makes the worker of a CPU before its first turn, with the guests of its home threads.
-    /// Nothing was done in the worker's private side of the machine, which has threads of these
+    /// Nothing was done in the worker's own side of the machine, which has threads of these
     /// homes and so many buffers. Its trace has room for `limit` entries.
     ///
     /// Requires: each poll is one action, and the machine has room at any time. Nothing was done in
