@@ -1,4 +1,4 @@
-//! Why words make no order: what they ask for instead, or what is wrong with them. `why_no_order`
+//! Why words make no order: what they ask for in its place, or what is wrong with them. `why_no_order`
 //! takes memory. No call waits.
 
 ghost use Rattle.std.specs.Prelude.{◌≡◌, None, codes, map};

@@ -1,8 +1,8 @@
-//! Out of memory, as libraries report it: by a kind of error. No call takes memory or waits.
+//! Want of memory that a library tells by a kind of error. No call takes memory or waits.
 //!
-//! [`NoMemory`] is evidence: it is made from the allocator's failure. `clap` and the readers of
-//! `std` do not pass that failure on, and report only a kind of error. Therefore the evidence is
-//! made here without the allocator's failure, and nowhere else in this crate.
+//! [`NoMemory`] is evidence: it is made from the allocator's refusal. `clap` and the readers of `std`
+//! do not hand that refusal on, and tell of it by a kind of error alone. So it is made up here, and
+//! nowhere else in this crate.
 
 ghost use Rattle.std.specs.Prelude.{◌≡◌, ◌≢◌, MatchOption};
 ghost use Rattle.{clap.specs.declared.error.kind.ErrorKind.TheVariants.OutOfMemory, event_log.specs.Refusals.no_memory, mctower.specs.Serve.kind_refused};

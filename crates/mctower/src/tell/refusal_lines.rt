@@ -1,4 +1,4 @@
-//! What standard error reports of an error. No call takes memory or waits, unless the sink's writer
+//! What is told of a refusal on standard error. No call takes memory or waits, unless the sink's writer
 //! does.
 
 ghost use Rattle.std.specs.Prelude.{◌≡◌, false, map};
