@@ -1,4 +1,5 @@
-//! When an idle CPU parks. No call takes memory. `after_poll` and `after_turn` may wait.
+//! When an idle CPU parks: after a number of failed polls of its pending queue. No call takes
+//! memory. `after_poll` and `after_turn` may wait.
 
 ghost use Rattle.std.specs.Prelude.{◌≡◌};
 
@@ -9,8 +10,9 @@ use event_log::CpuId;
 use layer_traits::{CallLayer, IpcLaw};
 use std::sync::Wait;
 
-// How many times an idle CPU polls its pending queue before it parks. Two CPUs that hand a buffer to each other
-// find each other's thread within some ten polls; to park and to be woken costs some hundred.
+// How many times an idle CPU polls its pending queue before it parks. Two CPUs that pass a buffer
+// between them find each other's thread within about ten polls. Parking and remote wake-up cost
+// about a hundred.
 const POLLS: u16 = 1_000;
 
 /// An idle CPU's polls of its pending queue.
@@ -23,7 +25,7 @@ pub(crate) struct Idler {
 }
 
 impl Idler {
-    /// Of a CPU that has not been idle.
+    /// Returns the state of a CPU that has not been idle.
     pub(crate) fn new(cpu: CpuId) -> Idler {
         Idler {
             cpu,
@@ -32,8 +34,9 @@ impl Idler {
         }
     }
 
-    /// Before each turn, or poll of a call. It reads the bell between two sections, so before the section that
-    /// polls the queue begins.
+    /// Reads the CPU's bell if no thread runs and no section is under way. A worker calls it before
+    /// it takes turns, a caller before each poll of a call. Therefore the bell is read before the
+    /// section that polls the queue begins.
     #[inline(always)]
     pub(crate) fn before<I: CallLayer<IpcLaw>>(&mut self, part: &I, machine: &I::Machine)
     where
@@ -60,8 +63,8 @@ impl Idler {
         }
     }
 
-    /// After each turn of a worker: parks its CPU if it has been idle for long, is not halted, and need not ask
-    /// its gate.
+    /// After each turn of a worker: parks its CPU if it has been idle for long, is not halted, and
+    /// need not ask its gate.
     #[inline(always)]
     pub(crate) fn after_turn<I: CallLayer<IpcLaw> + Drop, R: Wait>(
         &mut self,
