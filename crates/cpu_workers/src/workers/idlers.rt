@@ -80,7 +80,8 @@ impl Idler {
         }
     }
 
-    // Counts a poll of an idle CPU, and returns whether it has been idle for so many that it may park.
+    // Counts a poll of an idle CPU, and returns whether it has been idle for so many polls that it
+    // may park.
     #[inline(always)]
     fn may_park<I: CallLayer<IpcLaw>>(&mut self, part: &I) -> bool {
         if part.current().is_some() {
