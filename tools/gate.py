@@ -39,6 +39,7 @@ tests/tables.py
 tests/plans.sh
 tests/replay.py
 tests/wrong-programs.py
+tests/allocations.py
 tests/gate.py
 tests/manual.sh
 tests/help.sh
@@ -53,6 +54,7 @@ tools/public-functions.py
 ALONE = """
 tests/edge.sh
 tests/threads.sh
+tests/parks.py
 web/in_browser.py
 metal/test.py
 metal/wrong_hosts.py
