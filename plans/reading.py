@@ -250,6 +250,10 @@ def unknown_word(instruction, word, operands):
     """Why a line is not an instruction, by its word and the number of its operands."""
     if "#" in instruction:
         return "an instruction cannot contain a comment: put it after the string"
+    if ";" in instruction:
+        return "a string has one instruction: put the next one into its own string"
+    if word.endswith(":"):
+        return "there are no labels: a target is a line of the program, counted from 0"
     if instruction and instruction.split() != instruction.split(" "):
         return "expected one space between two words, and none before or after them"
     if word not in INSTRUCTIONS:
