@@ -47,7 +47,7 @@ impl TextJudge {
     /// the part are judged: what stands behind them is the beginning of a line.
     ///
     /// Requires: the number of a line stays below 2^64.
-    #[tactic(auto, using(crate::proofs::PartLemmas::none_taken, crate::proofs::PartLemmas::line_over, crate::proofs::PartLemmas::steps_shorter))]
+    #[tactic(auto, using(crate::proofs::PartLemmas::none_taken, crate::proofs::PartLemmas::steps_shorter))]
     pub fn take_lines(&mut self, part: &[u8]) -> usize
         requires { self.old.line + length part.now < 2 ^ 64 }
         ensures inside { result ≤ length part.now }

@@ -25,7 +25,7 @@ pub fn lines_end(text: &[u8]) -> usize
 /// The digits that the text begins with, of which there is one at least: their number, where they are
 /// at most `SHORT`, and how many they are. Where the first is a zero no other is read.
 // More digits than that wrap round: a test of their count here would cost one for each digit.
-#[tactic(auto, using(crate::proofs::CommonLemmas::first_digit, crate::proofs::CommonLemmas::digits_more, crate::proofs::CommonLemmas::digits_spell, crate::proofs::CommonLemmas::digit_goes_on))]
+#[tactic(auto, using(crate::proofs::CommonLemmas::first_digit, crate::proofs::CommonLemmas::digits_spell))]
 #[inline(always)]
 fn first_digits(text: &[u8]) -> (u64, usize)
     requires digit { is_ascii_digit (slice_index text.now 0) ≡ true }

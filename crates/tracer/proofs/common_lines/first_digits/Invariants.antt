@@ -1,5 +1,5 @@
 -- The digits so far are read, where they are few; behind them the text goes on.
-use Rattle.std.proofs.Common.{ℕ, ◌-◌, ◌<◌, ◌≤◌, length}
+use Rattle.std.proofs.Common.{◌-◌, ◌<◌, ◌≤◌, length}
 use Rattle.event_log.proofs.DigitsLemmas.{ReadsUpTo}
 use Rattle.tracer.proofs.common_lines.first_digits.Given as goal
 

@@ -1,4 +1,4 @@
-use Rattle.std.proofs.{Common.{◌≡◌, ℕ, ◌+◌, ◌<◌, [], length, take, Some, Ok, refl, arith}, lemmas.Bool.Decides.nat_tests}
+use Rattle.std.proofs.{Common.{◌≡◌, ◌+◌, ◌<◌, [], length, take, Some, Ok, refl, arith}, lemmas.Bool.Decides.nat_tests}
 use Rattle.tracer.specs.{declared.checking.TextJudge.TextJudge, Tallies.progress_of}
 use Rattle.tracer.proofs.PartLemmas.{line_over, faulty_line_over, all_taken}
 use Rattle.tracer.proofs.checking.TextJudge.take_lines.Goals as goal

@@ -1,4 +1,3 @@
-use Rattle.std.proofs.Common.{arith}
 use Rattle.tracer.proofs.CommonLemmas.{line_is_there}
 use Rattle.tracer.proofs.judge.Judge.next_line.Goals as goal
 
