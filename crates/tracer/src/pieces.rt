@@ -61,6 +61,7 @@ pub fn cut_line(text: &[u8]) -> Option<(&[u8], &[u8])>
     ensures some { IfSome result (λ p. slice_split (λ b. b == 10) text.now ≡ p.0.now ∷ slice_split (λ b. b == 10) p.1.now) }
     ensures shorter { IfSome result (λ p. length p.0.now + 1 + length p.1.now ≡ length text.now) }
     ensures line { IfSome result (λ p. IsFirstLine text.now p.0.now p.1.now) }
+    ensures lacks { IfNone result ((k : ℕ) → k < length text.now → (get_or text.now k 0 == 10) ≡ false) }
 {
     for end in chunk_with(text, b'\n')..text.len() {
         if text[end] == b'\n' {
