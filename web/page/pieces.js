@@ -1,8 +1,10 @@
 "use strict";
 // A kernel's state in pieces: each CPU, each thread, each lock with its block, each trace. Equal pieces of a place are kept once and have one number, with what
 // the piece says of the laws. A lock is kept as its block and who stands in its line, so that two states which differ only in how often a lock was taken are one.
+// A row has the numbers of a state's pieces, one for each place.
 
 const PIECE_BYTES = 1000; // about what a piece takes
+const UNSET = ""; // the place of a thread that has none yet
 const AFTER_EFFECT = ["Other", "Own", "RelQ", "Returns"]; // the stages of a call that has taken effect and not returned
 const LAW_BITS = new Map([...LAWS.keys()].map((law, i) => [law, 1 << i]));
 const bitOf = law => LAW_BITS.get(law);
@@ -12,12 +14,29 @@ const BIT = {
   lost: bitOf("sent = received ++ left"), order: bitOf("callers in their order"), answer: bitOf("each answer fits its buffer"),
   grows: bitOf("the order only grows"), still: bitOf("quiet only if nobody can go on"),
 };
-const EFFECT_BITS = BIT.lost | BIT.order | BIT.answer | BIT.grows;
+const EFFECT_BITS = BIT.lost | BIT.order | BIT.answer | BIT.grows, STATE_BITS = BIT.place | BIT.home | BIT.owner | BIT.wakeUp | BIT.sleeper;
 
-function blockPiece(block) {
-  if (block instanceof PendingBlock) return block.threads;
-  const { owner, items, effects, sleepers, waiting, line, positions, closed, closes } = block;
-  return [owner, items.map(spelledMessage), effects, sleepers, waiting, line, positions, closed, closes];
+const listText = list => (list.length === 0 ? "" : list.length === 1 ? `${list[0]}` : list.join());
+
+function blockText(block) {
+  if (block instanceof PendingBlock) return listText(block.threads);
+  const { owner, items, effects, sleepers, waiting, line, positions, closed, closes } = block, held = items.map(spelledMessage).join(" ");
+  const lists = `${listText(sleepers)};${listText(waiting[0])};${listText(waiting[1])};${listText(line[0])};${listText(line[1])}`;
+  return `${owner};${held};${lists};${effects};${positions[0]};${positions[1]};${closed};${closes}`;
+}
+
+function isSameList(list, other) {
+  if (list.length !== other.length) return false;
+  for (let i = 0; i < list.length; i++) if (list[i] !== other[i]) return false;
+  return true;
+}
+
+const isSameCpu = ({ current, hand, ready, begun, section }, known) => section === null && known.section === null && current === known.current && hand === known.hand
+  && begun === known.begun && isSameList(ready, known.ready);
+
+// A buffer's block without what no step reads.
+function withoutHistory(block) {
+  return block instanceof PendingBlock ? block : Object.assign(block.copied(), { effects: 0, positions: [0, 0], closes: 0 });
 }
 
 // What a piece says of the laws and of the next step: the threads that stand in it and the laws broken there; of a CPU the lock that it is inside of; of a thread
@@ -55,45 +74,77 @@ class Pieces {
     const locks = [...kernel.blocks.keys()], locksAt = cpus + guests, tracesAt = locksAt + locks.length;
     Object.assign(this, { kernel, isEndless, locks, guestsAt: cpus, locksAt, tracesAt, count: tracesAt + (isEndless ? 0 : cpus) });
     this.hasCopies = wrong === "look-always-hits"; // then a CPU inside has a copy of its own; else the block is nobody else's
-    Object.assign(this, { memory, numbers: new Map(), kept: [], says: [] });
+    Object.assign(this, { memory, numbers: new Map(), kept: [], says: [], owners: [], loaded: new Int32Array(this.count).fill(-1) });
   }
 
   // ---- from the kernel to numbers
 
   // The number of what the kernel has at a place.
   numberOf(place) {
-    const [text, kept] = place < this.guestsAt ? this.cpuPiece(place) : place < this.locksAt ? this.guestPiece(place - this.guestsAt)
-      : place < this.tracesAt ? this.lockPiece(this.locks[place - this.locksAt]) : this.tracePiece(place - this.tracesAt);
-    const key = JSON.stringify([place, text]), known = this.numbers.get(key);
+    const text = this.textAt(place), known = this.numbers.get(text);
     if (known !== undefined) return known;
     this.memory.take(PIECE_BYTES);
-    this.numbers.set(key, this.kept.length);
-    this.kept.push(kept);
-    this.says.push(this.saysOf(place));
+    const said = this.saysOf(place);
+    this.numbers.set(text, this.kept.length);
+    this.kept.push(this.keptAt(place));
+    this.says.push(said);
+    this.owners.push(said.owner);
     return this.kept.length - 1;
   }
 
-  cpuPiece(c) {
-    const { current, hand, ready, begun, section, block } = this.kernel.cpus[c], isInside = block !== null, copy = isInside && this.hasCopies ? block.copied() : null;
-    return [[current, hand, ready, begun, section, copy ? blockPiece(copy) : isInside], { current, hand, ready, begun, section, isInside, copy }];
+  // Whether the kernel has a piece at the place of a CPU between its sections or of a thread.
+  hasAt(place, number) {
+    const { kernel, guestsAt, kept } = this, known = kept[number];
+    return place < guestsAt ? isSameCpu(kernel.cpus[place], known) : this.isSameGuest(kernel.guests[place - guestsAt], known);
   }
 
-  guestPiece(t) {
-    const { line, registers, stage, position, effect, place } = this.kernel.guests[t], has = this.isEndless ? AFTER_EFFECT.includes(stage) : true;
-    const kept = { line, registers: [...registers], stage, position: this.isEndless ? 0 : position, effect: has ? effect : null, place };
-    return [[line, registers.map(String), stage, kept.position, kept.effect && [effect.kind, spelledMessage(effect.message)], place], kept];
+  isSameGuest({ line, registers, stage, position, effect, place }, known) {
+    if (line !== known.line || stage !== known.stage || place !== known.place || (!this.isEndless && position !== known.position)) return false;
+    const other = known.effect, isSame = this.hasEffect(stage) && effect ? other !== null && other.kind === effect.kind && isSameList(other.message, effect.message) : other === null;
+    return isSame && isSameList(registers, known.registers);
   }
 
+  // What the kernel has at a place, as a text. What is left out of it is not kept either.
+  textAt(place) {
+    const { kernel, guestsAt, locksAt, tracesAt } = this;
+    if (place < guestsAt) return `${place}:${this.cpuText(kernel.cpus[place])}`;
+    if (place < locksAt) return `${place}:${this.guestText(kernel.guests[place - guestsAt])}`;
+    if (place >= tracesAt) return `${place}:${kernel.cpus[place - tracesAt].trace.join(";")}`;
+    const { block, line } = this.lockPiece(this.locks[place - locksAt]);
+    return `${place}:${blockText(block)}:${line}`;
+  }
+
+  cpuText({ current, hand, ready, begun, section, block }) {
+    return `${current};${hand};${listText(ready)};${begun};${section?.name};${section?.lock};${block === null ? "" : this.hasCopies ? blockText(block) : "inside"}`;
+  }
+
+  guestText({ line, registers, stage, position, effect, place }) {
+    const known = this.hasEffect(stage) && effect ? `${effect.kind} ${effect.message}` : "";
+    return `${line};${registers};${stage};${this.isEndless ? 0 : position};${known};${place}`;
+  }
+
+  hasEffect(stage) {
+    return !this.isEndless || AFTER_EFFECT.includes(stage);
+  }
+
+  // A lock's block, and the CPUs in its line.
   lockPiece(lock) {
-    const at = this.kernel.cpus.flatMap(({ section, ticket }, c) => (section?.lock === lock ? [[ticket, c]] : []));
-    const block = this.kernel.blocks.get(lock).copied(), line = at.sort((x, y) => x[0] - y[0]).map(([, c]) => c);
-    if (this.isEndless && block instanceof BufferBlock) Object.assign(block, { effects: 0, positions: [0, 0], closes: 0 });
-    return [[blockPiece(block), line], { block, line }];
+    const { kernel, isEndless } = this, block = kernel.blocks.get(lock), at = [];
+    kernel.cpus.forEach(({ section, ticket }, c) => { if (section?.lock === lock) at.push([ticket, c]); });
+    return { block: isEndless ? withoutHistory(block) : block, line: at.sort((x, y) => x[0] - y[0]).map(([, c]) => c) };
   }
 
-  tracePiece(c) {
-    const { trace } = this.kernel.cpus[c];
-    return [trace, trace];
+  // The same, to be put again.
+  keptAt(place) {
+    const { kernel, guestsAt, locksAt, tracesAt, isEndless } = this;
+    if (place >= tracesAt) return kernel.cpus[place - tracesAt].trace;
+    if (place >= locksAt) return this.lockPiece(this.locks[place - locksAt]);
+    if (place >= guestsAt) {
+      const { line, registers, stage, position, effect, place: at } = kernel.guests[place - guestsAt];
+      return { line, registers: [...registers], stage, position: isEndless ? 0 : position, effect: this.hasEffect(stage) ? effect : null, place: at };
+    }
+    const { current, hand, ready, begun, section, block } = kernel.cpus[place];
+    return { current, hand, ready, begun, section, isInside: block !== null, copy: block !== null && this.hasCopies ? block.copied() : null };
   }
 
   saysOf(place) {
@@ -105,16 +156,35 @@ class Pieces {
     return block instanceof PendingBlock ? pendingSays(kernel, block, Number(lock.slice("pending".length))) : bufferSays(block);
   }
 
-  all() {
-    return counted(this.count).map(place => this.numberOf(place));
+  // What the kernel has, as one text.
+  text() {
+    return counted(this.count).map(place => this.textAt(place)).join();
   }
 
   // ---- from numbers to the kernel
 
-  // Makes the kernel's state that of these numbers, which stand in a list from `from` on.
-  load(numbers, from) {
-    for (let place = this.count - 1; place >= 0; place--) this.put(place, this.kept[numbers[from + place]]);
-    return this.kernel;
+  // Makes the kernel's state that of a row. What it has already stays, but for CPUs, which may be inside of a lock.
+  load(row) {
+    const { kernel, kept, loaded, guestsAt } = this;
+    for (let place = this.count - 1; place >= 0; place--) if (place < guestsAt || loaded[place] !== row[place]) this.put(place, kept[row[place]]);
+    loaded.set(row);
+    return kernel;
+  }
+
+  // Makes the kernel's what a move of a CPU may read of a row: all CPUs, its thread, its trace and a lock. Other threads have no place then.
+  loadFor(row, c, lockPlace) {
+    const { kernel, kept, guestsAt } = this, { thread } = this.says[row[c]], trace = this.isEndless ? -1 : this.tracesAt + c;
+    this.loaded.fill(-1);
+    for (const guest of kernel.guests) guest.place = UNSET;
+    for (const place of [trace, lockPlace, thread < 0 ? -1 : guestsAt + thread]) if (place >= 0) this.put(place, kept[row[place]]);
+    for (let cpu = 0; cpu < guestsAt; cpu++) this.put(cpu, kept[row[cpu]]);
+    return kernel;
+  }
+
+  // Reads from another kernel from here on.
+  hold(kernel) {
+    this.kernel = kernel;
+    this.loaded.fill(-1);
   }
 
   // Locks are put before the CPUs, which may be inside of them.
@@ -122,7 +192,7 @@ class Pieces {
     const { kernel } = this;
     if (place >= this.tracesAt) kernel.cpus[place - this.tracesAt].trace = kept;
     else if (place >= this.locksAt) this.putLock(this.locks[place - this.locksAt], kept);
-    else if (place >= this.guestsAt) Object.assign(kernel.guests[place - this.guestsAt], kept, { registers: [...kept.registers] });
+    else if (place >= this.guestsAt) Pieces.putGuest(kernel.guests[place - this.guestsAt], kept);
     else this.putCpu(kernel.cpus[place], kept);
   }
 
@@ -132,9 +202,22 @@ class Pieces {
     line.forEach((c, ticket) => { this.kernel.cpus[c].ticket = ticket; });
   }
 
+  static putGuest(guest, { line, registers, stage, position, effect, place }) {
+    guest.line = line;
+    guest.registers = [...registers];
+    guest.stage = stage;
+    guest.position = position;
+    guest.effect = effect;
+    guest.place = place;
+  }
+
   putCpu(cpu, { current, hand, ready, begun, section, isInside, copy }) {
-    const block = isInside ? (copy ?? this.kernel.blocks.get(section.lock)).copied() : null;
-    Object.assign(cpu, { current, hand, ready, begun, section, block });
+    cpu.current = current;
+    cpu.hand = hand;
+    cpu.ready = ready;
+    cpu.begun = begun;
+    cpu.section = section;
+    cpu.block = isInside ? (copy ?? this.kernel.blocks.get(section.lock)).copied() : null;
     if (this.isEndless) cpu.trace = [];
   }
 }
