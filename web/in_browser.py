@@ -165,6 +165,12 @@ class Checks:
         self.holds("at the end nobody goes on", "quiet: nobody goes on" in self.text("#order"), True)
         self.holds("and the proved program says so", "the proved program prints the same" in self.text("#evidence"), True)
         self.browser.wait("document.querySelector('#evidence').textContent.includes('58 of 58')")
+        self.set_plan('cpus = 1\\ntrace = 4\\nbuffers = [1]\\n[[thread]]\\ncpu = 0\\nprogram = ["send 0 r0", "send 0 r0"]\\n')
+        for steps, quiet in ((58, "quiet"), (60, "not quiet")):
+            self.set_value("#schedule", f"'0*{steps}'")
+            self.holds(f"a deadlock after {steps} steps", f"{quiet} deadlock: no thread can ever proceed" in self.text("#order"), True)
+        self.browser.read("page.go(30)")
+        self.holds("none before it", "deadlock" in self.text("#order"), False)
 
     def play(self):
         self.open("#step=3")
@@ -191,6 +197,8 @@ class Checks:
                              ("?plan=two-receivers&step=20", [20, 118])]:
             self.open(link)
             self.holds(f"the link {link}", self.at(), wanted)
+        self.open("#plan=two-senders&step=99999")
+        self.holds("a link with a step beyond the run", self.text("#refused"), "The link names step 99999 of a run of 141 steps.")
         self.open("#plan=woken-from-afar&schedule=0*13,7*2")
         self.holds("a link with a CPU that is none", self.text("#refused").startswith("error: BadCpu(4)"), True)
         for link, words in [("#plan=nowhere", "the plan nowhere"), ("#wrong=never-wrong", "the mistake never-wrong"), ("#rule=<b>", "the mistake <b>")]:
@@ -228,7 +236,9 @@ class Checks:
         self.keys("Enter")
         self.browser.read("document.querySelector('#schedule').blur()")
         self.holds("a schedule that is typed in", self.at(), [23, 23])
-        for value, error, words in [("'0*13,,1'", "error: BadSchedule(9)", "item 2"), ("'0,5'", "error: BadCpu(4)", "CPUs 0 to 1")]:
+        for value, error, words in [("'0*13,,1'", "error: BadSchedule(9)", "item 2"), ("'0,5'", "error: BadCpu(4)", "CPUs 0 to 1"),
+                                    ("'0*13 1*24'", "error: BadSchedule(9)", "Here is white space"),
+                                    ("'0*13;1'", "error: BadSchedule(9)", "A comma separates two items")]:
             self.set_value("#schedule", value)
             self.holds(f"the schedule {value} is refused", [self.text("#refused").startswith(error), words in self.text("#refused")], [True, True])
         self.set_value("#schedule", "'1*3'")

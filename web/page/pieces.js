@@ -115,7 +115,7 @@ class Pieces {
   }
 
   cpuText({ current, hand, ready, begun, section, block }) {
-    return `${current};${hand};${listText(ready)};${begun};${section?.name};${section?.lock};${block === null ? "" : this.hasCopies ? blockText(block) : "inside"}`;
+    return `${current};${hand};${listText(ready)};${begun};${section?.name};${section?.lock};${block === null ? "" : `inside ${this.hasCopies ? blockText(block) : ""}`}`;
   }
 
   guestText({ line, registers, stage, position, effect, place }) {
