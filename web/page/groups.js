@@ -1,6 +1,6 @@
 "use strict";
-// The group of a CPU: its piece, those of its threads and of its pending queue, and its trace, as one number. A group is a tree of pairs of numbers, whose leaves are
-// the pieces: the children of node n are 2n and 2n + 1, and node 1 is the root. What a CPU does next depends on its group and on one lock.
+// The group of a CPU: its piece, those of its threads and of its pending queue, and its trace, as one number. A group is a tree of pairs of numbers, whose
+// leaves are the pieces: the children of node n are 2n and 2n + 1, and node 1 is the root. What a CPU does next depends on its group and on one lock.
 
 class Group {
   c; moves; inner; memory; places; leaves; nodes; pairs;
@@ -9,8 +9,9 @@ class Group {
 
   // `inner` has the pairs within trees.
   constructor(c, moves, inner, memory) {
-    const { tracesAt, guestsAt, isEndless } = moves.pieces, pending = tracesAt - guestsAt + c, places = [c, ...moves.homes[c], pending, ...(isEndless ? [] : [tracesAt + c])];
-    Object.assign(this, { c, moves, inner, memory, places, pending, leaves: places.length, nodes: new Int32Array(2 * places.length), pairs: new Pairs(memory) });
+    const { tracesAt, guestsAt, isEndless } = moves.pieces, pending = tracesAt - guestsAt + c, trace = isEndless ? [] : [tracesAt + c];
+    const places = [c, ...moves.homes[c], pending, ...trace], leaves = places.length;
+    Object.assign(this, { c, moves, inner, memory, places, pending, leaves, nodes: new Int32Array(2 * leaves), pairs: new Pairs(memory) });
     Object.assign(this, { kinds: new Uint8Array(ROOM), insides: new Int8Array(ROOM), pendings: new Int32Array(ROOM) });
     memory.take(6 * ROOM);
   }

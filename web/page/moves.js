@@ -6,20 +6,21 @@ const MOVE_BYTES = 400; // about what a move takes beside its numbers
 const MOST_LATELY = 8; // pieces that are compared
 const UNTOLD = -2; // whether the laws hold of a thread that was moved does not follow from its two pieces
 
-// What the group of a CPU says of it: why it takes no move, or to which lock its next move goes (NO_LOCK: to none, or to its own pending queue); whether it has nothing
-// to do, and whether its threads have ended.
+// What the group of a CPU says of it: why it takes no move, or to which lock its next move goes (NO_LOCK: to none, or to its own pending queue); whether it has
+// nothing to do, and whether its threads have ended.
 const HALTED = 0, FOREIGN = 1, NO_LOCK = 2, FIRST_LOCK = 3, KIND = 63, RESTS = 64, ENDED = 128;
 
-// A move: the pieces that it leaves of the CPU, its thread and the lock, each with its place; the threads that it only moved, each with the number of its new place;
-// which of them have another home; the entry of a call that took effect; how many steps it takes; the laws on effects that it breaks, whether it changes what a
-// buffer holds, and whether the laws on states hold behind it where they hold before it.
+// A move: the pieces that it leaves of the CPU, its thread and the lock, each with its place; the threads that it only moved, each with the number of its new
+// place; which of them have another home; the entry of a call that took effect; how many steps it takes; the laws on effects that it breaks, whether it changes
+// what a buffer holds, and whether the laws on states hold behind it where they hold before it.
 class Moves {
   constructor(pieces, bySections, memory) {
     Object.assign(this, { pieces, bySections, memory, homes: pieces.kernel.cpus.map((_, c) => Moves.homeOf(pieces, c)) });
-    // a CPU's piece and its thread's, the place of the lock that they go to, or -1, and pieces that moves left of them; these two and the lock's piece, and the move
+    // a CPU's piece and its thread's, the place of the lock that they go to, or -1, and pieces that moves left of them; these and the lock's piece, and the move
     Object.assign(this, { meetings: new Pairs(memory), lockPlaces: [], lefts: [], known: new Pairs(memory), moves: [] });
-    // moved threads, longer traces
-    Object.assign(this, { placeWords: [], movings: new Pairs(memory), moved: [], longer: new Pairs(memory), traces: [], counts: pieces.kernel.guests.map(() => 0) });
+    // moved threads, longer traces; how often each thread is in some pieces
+    Object.assign(this, { placeWords: [], movings: new Pairs(memory), moved: [], longer: new Pairs(memory), traces: [] });
+    this.counts = pieces.kernel.guests.map(() => 0);
   }
 
   static homeOf({ kernel, guestsAt }, c) {
@@ -74,19 +75,18 @@ class Moves {
     return this.moves[number];
   }
 
-  // Takes a move by the twin, and tells what it did. Other threads have no place before it, so that each place which it gives them is seen; that a CPU whose own
-  // threads have all ended takes no step is known by then.
+  // Takes a move by the twin, and tells what it did. Other threads have no place before it, so that each place which it gives them is seen; that a CPU whose
+  // own threads have all ended takes no step is known by then.
   taken(row, c, meeting, number) {
-    const { pieces } = this, lockPlace = this.lockPlaces[meeting], kernel = pieces.loadFor(row, c, lockPlace), cpu = kernel.cpus[c], { thread } = pieces.says[row[c]];
-    const lock = pieces.locks[lockPlace - pieces.locksAt], before = kernel.blocks.get(lock);
+    const { pieces } = this, lockPlace = this.lockPlaces[meeting], kernel = pieces.loadFor(row, c, lockPlace), cpu = kernel.cpus[c];
+    const { thread } = pieces.says[row[c]], lock = pieces.locks[lockPlace - pieces.locksAt], before = kernel.blocks.get(lock);
     let [, part] = kernel.step(c), steps = 1;
     if (part === "misses" || part === "") return null;
     for (; this.bySections && cpu.section !== null; steps++) kernel.step(c);
-    const others = this.othersMoved(thread), remote = [], guestPlace = thread < 0 ? -1 : pieces.guestsAt + thread, [cpus, guests] = this.lefts[meeting];
-    for (let i = 0; i < others.length; i += 2) if (kernel.guests[others[i] - pieces.guestsAt].home !== c) remote.push(others[i] - pieces.guestsAt, others[i + 1]);
+    const others = this.othersMoved(thread), guestPlace = thread < 0 ? -1 : pieces.guestsAt + thread, [cpus, guests] = this.lefts[meeting];
     const { faults, isChanged } = before instanceof BufferBlock ? judgedEdit(before, kernel.blocks.get(lock), kernel.entry, kernel.guests[thread]) : NOT_JUDGED;
     const move = { number, cpu: this.left(c, cpus), guestPlace, guest: this.left(guestPlace, guests), lockPlace, lock: lockPlace < 0 ? -1 : pieces.numberOf(lockPlace),
-      others, remote, entry: kernel.entry, steps, faults, isChanged, isKeeping: false };
+      others, remote: this.remoteOf(others, c), entry: kernel.entry, steps, faults, isChanged, isKeeping: false };
     move.isKeeping = this.isKeeping(move, row, c);
     return move;
   }
@@ -105,6 +105,13 @@ class Moves {
     const { kernel, guestsAt } = this.pieces, others = [];
     kernel.guests.forEach(({ place }, t) => { if (place !== UNSET && t !== thread) others.push(guestsAt + t, this.placeNumber(place)); });
     return others;
+  }
+
+  // Those of another home than a CPU, by their numbers.
+  remoteOf(others, c) {
+    const { kernel, guestsAt } = this.pieces, remote = [];
+    for (let i = 0; i < others.length; i += 2) if (kernel.guests[others[i] - guestsAt].home !== c) remote.push(others[i] - guestsAt, others[i + 1]);
+    return remote;
   }
 
   // Makes a row what it is behind a move.
@@ -146,11 +153,11 @@ class Moves {
 
   // ---- the laws
 
-  // Whether the laws on states hold behind a move where they hold before it, if they do of the threads that it only moved: its three pieces have the same threads
-  // as before and break no law, and who works on a buffer is its owner. A former owner is one of these threads, or the buffer's owner still.
+  // Whether the laws on states hold behind a move where they hold before it, if they do of the threads that it only moved: its three pieces have the same
+  // threads as before and break no law, and who works on a buffer is its owner. A former owner is one of these threads, or the buffer's owner still.
   isKeeping(move, row, c) {
-    const { says, locksAt, guestsAt, owners } = this.pieces, { guestPlace, lockPlace, others } = move, thread = guestPlace - guestsAt, lock = lockPlace - locksAt;
-    const places = [c, guestPlace, lockPlace], pieces = [move.cpu, move.guest, move.lock], { counts } = this;
+    const { says, locksAt, guestsAt, owners } = this.pieces, { guestPlace, lockPlace, others } = move, thread = guestPlace - guestsAt;
+    const lock = lockPlace - locksAt, places = [c, guestPlace, lockPlace], pieces = [move.cpu, move.guest, move.lock], { counts } = this;
     let isKept = true;
     places.forEach((place, i) => {
       if (place < 0) return;

@@ -31,12 +31,13 @@ function isSameList(list, other) {
   return true;
 }
 
-const isSameCpu = ({ current, hand, ready, begun, section }, known) => section === null && known.section === null && current === known.current && hand === known.hand
-  && begun === known.begun && isSameList(ready, known.ready);
+const isSameCpu = ({ current, hand, ready, begun, section }, known) => section === null && known.section === null && current === known.current
+  && hand === known.hand && begun === known.begun && isSameList(ready, known.ready);
 
 // A buffer's block without what no step reads.
 function withoutHistory(block) {
-  return block instanceof PendingBlock ? block : Object.assign(block.copied(), { effects: 0, positions: [0, 0], closes: 0 });
+  if (block instanceof PendingBlock || (block.effects === 0 && block.closes === 0 && block.positions[0] === 0 && block.positions[1] === 0)) return block;
+  return Object.assign(block.copied(), { effects: 0, positions: [0, 0], closes: 0 });
 }
 
 // What a piece says of the laws and of the next step: the threads that stand in it and the laws broken there; of a CPU the lock that it is inside of; of a thread
@@ -100,8 +101,9 @@ class Pieces {
 
   isSameGuest({ line, registers, stage, position, effect, place }, known) {
     if (line !== known.line || stage !== known.stage || place !== known.place || (!this.isEndless && position !== known.position)) return false;
-    const other = known.effect, isSame = this.hasEffect(stage) && effect ? other !== null && other.kind === effect.kind && isSameList(other.message, effect.message) : other === null;
-    return isSame && isSameList(registers, known.registers);
+    const other = known.effect, hasOne = this.hasEffect(stage) && effect !== null;
+    if (hasOne !== (other !== null) || (hasOne && (other.kind !== effect.kind || !isSameList(other.message, effect.message)))) return false;
+    return isSameList(registers, known.registers);
   }
 
   // What the kernel has at a place, as a text. What is left out of it is not kept either.
@@ -115,7 +117,8 @@ class Pieces {
   }
 
   cpuText({ current, hand, ready, begun, section, block }) {
-    return `${current};${hand};${listText(ready)};${begun};${section?.name};${section?.lock};${block === null ? "" : `inside ${this.hasCopies ? blockText(block) : ""}`}`;
+    const inside = block === null ? "" : `inside ${this.hasCopies ? blockText(block) : ""}`;
+    return `${current};${hand};${listText(ready)};${begun};${section?.name};${section?.lock};${inside}`;
   }
 
   guestText({ line, registers, stage, position, effect, place }) {
@@ -131,7 +134,7 @@ class Pieces {
   lockPiece(lock) {
     const { kernel, isEndless } = this, block = kernel.blocks.get(lock), at = [];
     kernel.cpus.forEach(({ section, ticket }, c) => { if (section?.lock === lock) at.push([ticket, c]); });
-    return { block: isEndless ? withoutHistory(block) : block, line: at.sort((x, y) => x[0] - y[0]).map(([, c]) => c) };
+    return { block: isEndless ? withoutHistory(block) : block, line: at.length === 0 ? at : at.sort((x, y) => x[0] - y[0]).map(([, c]) => c) };
   }
 
   // The same, to be put again.

@@ -14,7 +14,8 @@ const DIGITS = "0123456789ABCDEFGHIJKLMNOPQRSTUVWXYZabcdefghijklmnopqrstuvwxyz!#
 function bytesOf(text) {
   const letters = text.replace(/\s/g, ""), bytes = new Uint8Array(Math.floor((letters.length * 4) / 5)), values = new Uint8Array(128);
   [...DIGITS].forEach((digit, value) => { values[digit.charCodeAt(0)] = value; });
-  const valueAt = at => (at < letters.length ? values[letters.charCodeAt(at)] : 84), word = at => [0, 1, 2, 3, 4].reduce((sum, i) => sum * 85 + valueAt(at + i), 0);
+  const valueAt = at => (at < letters.length ? values[letters.charCodeAt(at)] : 84);
+  const word = at => [0, 1, 2, 3, 4].reduce((sum, i) => sum * 85 + valueAt(at + i), 0);
   for (let at = 0; at < bytes.length; at += 4) {
     const four = word((at / 4) * 5);
     for (let i = 0; i < 4; i++) bytes[at + i] = four >>> (24 - 8 * i);

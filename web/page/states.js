@@ -13,7 +13,7 @@ const mayGoBySections = wrong => wrong !== "look-always-hits";
 class States {
   // how far the search is: the state that is looked at, and its CPU that is next; what was found of the laws; what was told of the last move (see moveOf)
   looked = 0; cpu = 0; depth = 0; moved = 0; layerEnd = 1; isLimited = false; isBegun = false; broken = new Map(); everBroken = 0; group = 0; isClean = false;
-  // a state is the groups of the CPUs and the buffers; of each state are kept: these, the one before it, the CPU and the kind of the move that led here, and marks
+  // a state is the groups of the CPUs and the buffers; of each state are kept: these, the one before it, the CPU and the kind of the move that led here, marks
   groups; states; from; by; marks;
   // what a CPU's group and a lock make of the group, and by which move; what a new place of a thread or a new pending queue makes of a group
   deeds; shifts;
@@ -22,10 +22,11 @@ class States {
   // `ways` has `bySections`: a move is a whole section; `isEndless`: states are kept without history; `most`: bytes.
   constructor(plan, wrong = null, { bySections = false, isEndless = false, most = MOST_BYTES } = {}) {
     if ((bySections || isEndless) && !mayGoBySections(wrong)) throw new RangeError(`the mistake ${wrong} is searched by steps and with history`);
-    const memory = new Memory(most), pieces = new Pieces(plan, wrong, isEndless, memory), moves = new Moves(pieces, bySections, memory), inner = new Pairs(memory);
-    const cpus = pieces.guestsAt, width = cpus + plan.buffers.length, [now, next, row, standing] = [width, width, pieces.count, plan.threads.length].map(size => new Int32Array(size));
-    Object.assign(this, { plan, wrong, isEndless, bySections, memory, pieces, moves, cpus, now, next, row, standing, states: new Rows(memory, width) });
-    Object.assign(this, { groups: counted(cpus).map(c => new Group(c, moves, inner, memory)), deeds: new Cache(memory, ROOM), shifts: new Cache(memory, ROOM) });
+    const memory = new Memory(most), pieces = new Pieces(plan, wrong, isEndless, memory), moves = new Moves(pieces, bySections, memory), { cpus } = plan;
+    const width = cpus + plan.buffers.length, sizes = [width, width, pieces.count, plan.threads.length], inner = new Pairs(memory);
+    const [now, next, row, standing] = sizes.map(size => new Int32Array(size)), groups = counted(cpus).map(c => new Group(c, moves, inner, memory));
+    Object.assign(this, { plan, wrong, isEndless, bySections, memory, pieces, moves, cpus, now, next, row, standing, groups });
+    Object.assign(this, { states: new Rows(memory, width), deeds: new Cache(memory, ROOM), shifts: new Cache(memory, ROOM) });
     Object.assign(this, { from: new Int32Array(ROOM), by: new Uint8Array(ROOM), marks: new Uint16Array(ROOM) });
     memory.take(7 * ROOM);
     row.set(row.map((_, place) => pieces.numberOf(place)));
@@ -123,15 +124,16 @@ class States {
     return null;
   }
 
-  // The move of a CPU, or null if it would change nothing. Keeps what becomes of its group (-1: that is to be made anew), and whether laws on states that hold before hold behind it.
+  // The move of a CPU, or null if it would change nothing. Keeps what becomes of its group (-1: that is to be made anew), and whether laws on states that hold
+  // before it hold behind it.
   moveOf(c) {
     const { now, deeds, cpus } = this, kind = this.groups[c].kinds[now[c]] & KIND, key = now[c] * cpus + c;
     this.group = -1;
     this.isClean = false;
     if (kind === HALTED) return null;
     if (kind === FOREIGN) return this.moves.of(this.rowOf(now), c);
-    const lock = kind === NO_LOCK ? -1 : this.lockAt(kind - FIRST_LOCK), kept = deeds.placeOf(key, lock), at = deeds.has(kept, key, lock) ? kept : this.learn(c, key, lock);
-    const deed = deeds.entries[at + 3];
+    const lock = kind === NO_LOCK ? -1 : this.lockAt(kind - FIRST_LOCK), kept = deeds.placeOf(key, lock);
+    const at = deeds.has(kept, key, lock) ? kept : this.learn(c, key, lock), deed = deeds.entries[at + 3];
     if (deed < 0) return null;
     this.group = deeds.entries[at + 2];
     this.isClean = deed % 2 === 1;
@@ -198,9 +200,10 @@ class States {
     }
   }
 
-  // Puts the group of another CPU with one piece that is new: a thread at another place, or the pending queue. Returns what has to hold of the thread (see dueOf).
+  // Puts the group of another CPU with one piece that is new: a thread at another place, or the pending queue. Returns what has to hold of the thread.
   shift(c, what) {
-    const { next, shifts } = this, key = next[c] * this.cpus + c, kept = shifts.placeOf(key, what), at = shifts.has(kept, key, what) ? kept : this.learnShift(c, key, what);
+    const { next, shifts } = this, key = next[c] * this.cpus + c, kept = shifts.placeOf(key, what);
+    const at = shifts.has(kept, key, what) ? kept : this.learnShift(c, key, what);
     next[c] = shifts.entries[at + 2];
     return shifts.entries[at + 3];
   }
@@ -214,14 +217,14 @@ class States {
   }
 
   grow() {
-    const { memory } = this, room = Math.ceil(GROWTH * this.count), from = memory.longer(this.from, room), by = memory.longer(this.by, room), marks = memory.longer(this.marks, room);
+    const room = Math.ceil(GROWTH * this.count), [from, by, marks] = [this.from, this.by, this.marks].map(array => this.memory.longer(array, room));
     Object.assign(this, { from, by, marks });
     for (const cache of [this.deeds, this.shifts]) cache.setRoom(Math.min(MOST_CACHED, 1 << Math.ceil(Math.log2(room))));
   }
 
   // ---- the laws
 
-  // The laws on effects that are broken behind a move. Where all hold before it, the move tells; where one is broken, what was received and sent since then does.
+  // The laws on effects that are broken behind a move. Where all hold before it, the move tells; where one is broken, what was received and sent since does.
   effectFaults(move, origin, c) {
     const before = this.marks[origin] & EFFECT_BITS;
     if (!move.isChanged) return this.isEndless ? 0 : before;

@@ -154,7 +154,7 @@ class Rows extends Numbered {
   }
 }
 
-// Two numbers for each pair of numbers, kept until other pairs take their place: what is not there has to be made again. A pair has two places beside each other.
+// Two numbers for each pair of numbers, kept until other pairs take their place: what is not there has to be made again. A pair has two places.
 const CACHED = 4; // numbers of an entry
 class Cache {
   constructor(memory, room) {

@@ -76,6 +76,12 @@ function instructionFault(line, lines) {
   return at < 0 ? null : { from: [word, ...pieces.slice(0, at), ""].join(" ").length, piece: pieces[at], says: `${pieceFault(shape[at], pieces[at], lines)} (${shapeOf(word)})` };
 }
 
+// A key in a table within a table, or in one of a list of tables.
+function below(table, name) {
+  const nodes = [...table.values()].flatMap(node => (node.kind === "array" ? node.value : [node]));
+  return nodes.find(({ kind, value }) => kind === "table" && value.has(name))?.value.get(name);
+}
+
 class PlanPlaces {
   constructor(text) {
     this.text = text;
@@ -95,16 +101,10 @@ class PlanPlaces {
   key(name, t) {
     const table = t === null ? this.top : this.thread(t), allowed = (t === null ? PLAN_KEYS : THREAD_KEYS)[name], node = table.get(name);
     if (node) return { ...this.at(node.keyAt ?? node.at, name), says: `${name} is ${allowed}` };
-    const strays = [...table.keys()].filter(key => nearWords(key, [name]).length), near = table.get(strays[0]), lower = near ? undefined : PlanPlaces.below(table, name);
-    const ignored = strays.length ? `; ${strays.join(", ")} is near it and is ignored` : lower ? "; this one stands below a header: put it above all headers" : "";
+    const strays = [...table.keys()].filter(key => nearWords(key, [name]).length), near = table.get(strays[0]), lower = near ? undefined : below(table, name);
+    const misplaced = lower ? "; this one stands below a header: put it above all headers" : "", ignored = near ? `; ${strays.join(", ")} is near it and is ignored` : misplaced;
     const where = near ? this.at(near.keyAt ?? near.at, strays[0]) : lower ? this.at(lower.keyAt, name) : t === null ? {} : this.head(t);
     return { ...where, says: `${t === null ? "the plan" : `thread ${t}`} has no key ${name}: ${allowed}${ignored}` };
-  }
-
-  // A key in a table within a table, or in one of a list of tables.
-  static below(table, name) {
-    const inner = [...table.values()].flatMap(node => (node.kind === "array" ? node.value : [node])).find(({ kind, value }) => kind === "table" && value.has(name));
-    return inner?.value.get(name);
   }
 
   // Where a thread's table begins.
@@ -164,7 +164,7 @@ function placeOfFault(text, fault) {
 
 // What may have gone wrong with an item of a schedule, or nothing.
 function scheduleHint(item) {
-  const [times, cpu = ""] = item.split("*"), isSwapped = NUMBER.test(times) && times !== "0" && NUMBER.test(cpu) && Number(cpu) <= MOST_CPU_NAMED && readItem(item).fault;
+  const [times, cpu = ""] = item.split("*"), isSwapped = readItem(item).fault && !readItem(`${cpu}*${times}`).fault;
   if (/\s/.test(item)) return ". Here is white space: a comma, and nothing else, separates two items";
   if (item.includes(";")) return ". A comma separates two items";
   if (/^\*|\*$/.test(item)) return ". A number is missing beside *: 0*13 is 13 steps of CPU 0";
