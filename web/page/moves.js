@@ -1,26 +1,33 @@
 "use strict";
-// Moves of a CPU from a state in pieces: a step, or a whole section. What a move does depends on the CPU, on the thread that it runs and on the lock that it is at,
-// and on no other piece; so it is taken once by the twin for each three pieces that meet, and looked up from then on.
+// Moves of a CPU from a state in pieces: a step, or a whole section. What a move does depends on the CPU, on the thread that it runs and on the lock that it is
+// at, and on no other piece; so it is taken once by the twin for each three pieces that meet, and looked up from then on.
 
-const MOVE_BYTES = 400; // about what a move takes beside its numbers
+const ROOM_OF_MOVE = 80; // about what a move takes in lists beside its numbers
 const MOST_LATELY = 8; // pieces that are compared
 const UNTOLD = -2; // whether the laws hold of a thread that was moved does not follow from its two pieces
+
+// The numbers of a move: the pieces that it leaves of the CPU (-1: it would change nothing), of its thread and of the lock; the places of the thread and the
+// lock, or -1; where in `others` those threads begin and end that it only moved, each by its place and the number of its new one; and marks.
+const MOVE = 8, OF_CPU = 0, OF_THREAD = 1, OF_LOCK = 2, THREAD_AT = 3, LOCK_AT = 4, OTHERS_FROM = 5, OTHERS_TO = 6, MARKS = 7;
+
+// Its marks: the laws on effects that it breaks, whether it changes what a buffer holds, whether the laws on states hold behind it where they hold before it, and
+// whether it is a whole section.
+const IS_CHANGED = 1 << 12, IS_KEEPING = 1 << 13, IS_SECTION = 1 << 14;
 
 // What the group of a CPU says of it: why it takes no move, or to which lock its next move goes (NO_LOCK: to none, or to its own pending queue); whether it has
 // nothing to do, and whether its threads have ended.
 const HALTED = 0, FOREIGN = 1, NO_LOCK = 2, FIRST_LOCK = 3, KIND = 63, RESTS = 64, ENDED = 128;
 
-// A move: the pieces that it leaves of the CPU, its thread and the lock, each with its place; the threads that it only moved, each with the number of its new
-// place; which of them have another home; the entry of a call that took effect; how many steps it takes; the laws on effects that it breaks, whether it changes
-// what a buffer holds, and whether the laws on states hold behind it where they hold before it.
 class Moves {
   constructor(pieces, bySections, memory) {
     Object.assign(this, { pieces, bySections, memory, homes: pieces.kernel.cpus.map((_, c) => Moves.homeOf(pieces, c)) });
     // a CPU's piece and its thread's, the place of the lock that they go to, or -1, and pieces that moves left of them; these and the lock's piece, and the move
-    Object.assign(this, { meetings: new Pairs(memory), lockPlaces: [], lefts: [], known: new Pairs(memory), moves: [] });
+    Object.assign(this, { meetings: new Pairs(memory), lockPlaces: [], lefts: [], known: new Pairs(memory), count: 0, othersEnd: 0 });
+    Object.assign(this, { table: new Int32Array(MOVE * ROOM), others: new Int32Array(ROOM), entries: new Map() });
     // moved threads, longer traces; how often each thread is in some pieces
     Object.assign(this, { placeWords: [], movings: new Pairs(memory), moved: [], longer: new Pairs(memory), traces: [] });
     this.counts = pieces.kernel.guests.map(() => 0);
+    memory.take(4 * (MOVE + 1) * ROOM);
   }
 
   static homeOf({ kernel, guestsAt }, c) {
@@ -32,7 +39,7 @@ class Moves {
   // What a CPU's own pieces say of its next move.
   kindOf(row, c) {
     const { says, guestsAt, locksAt, tracesAt, kernel } = this.pieces, { isIdle, isBetween, thread } = says[row[c]], pending = tracesAt - guestsAt + c;
-    const hasEnded = this.homes[c].every(place => says[row[place]].isEnded), rests = says[row[pending]].isIdle && (isIdle || (isBetween && hasEnded));
+    const hasEnded = this.homes[c].every(place => says[row[place]].isEnded), rests = this.pieces.threads[row[pending]] === "" && (isIdle || (isBetween && hasEnded));
     const marks = (rests ? RESTS : 0) | (hasEnded ? ENDED : 0);
     if (isBetween && (hasEnded || this.isFull(row, c))) return marks | HALTED;
     if (thread >= 0 && kernel.guests[thread].home !== c) return marks | FOREIGN;
@@ -65,30 +72,30 @@ class Moves {
 
   // ---- moves
 
-  // The move of a CPU that is not halted, or null if it would change nothing, since the CPU looks in vain.
+  // The number of a CPU's move, where the CPU is not halted; -1 if it would change nothing, since the CPU looks in vain.
   of(row, c) {
     const meeting = this.meetingOf(row, c), lockPlace = this.lockPlaces[meeting], number = this.known.number(meeting, lockPlace < 0 ? -1 : row[lockPlace]);
-    if (number === this.moves.length) {
-      this.memory.take(MOVE_BYTES);
-      this.moves.push(this.taken(row, c, meeting, number));
-    }
-    return this.moves[number];
+    if (number === this.count) this.take(row, c, meeting);
+    return this.table[MOVE * number + OF_CPU] < 0 ? -1 : number;
   }
 
-  // Takes a move by the twin, and tells what it did. Other threads have no place before it, so that each place which it gives them is seen; that a CPU whose
+  // Takes a new move by the twin, and keeps what it did. Other threads have no place before it, so that each place which it gives them is seen; that a CPU whose
   // own threads have all ended takes no step is known by then.
-  taken(row, c, meeting, number) {
-    const { pieces } = this, lockPlace = this.lockPlaces[meeting], kernel = pieces.loadFor(row, c, lockPlace), cpu = kernel.cpus[c];
-    const { thread } = pieces.says[row[c]], lock = pieces.locks[lockPlace - pieces.locksAt], before = kernel.blocks.get(lock);
-    let [, part] = kernel.step(c), steps = 1;
-    if (part === "misses" || part === "") return null;
-    for (; this.bySections && cpu.section !== null; steps++) kernel.step(c);
-    const others = this.othersMoved(thread), guestPlace = thread < 0 ? -1 : pieces.guestsAt + thread, [cpus, guests] = this.lefts[meeting];
-    const { faults, isChanged } = before instanceof BufferBlock ? judgedEdit(before, kernel.blocks.get(lock), kernel.entry, kernel.guests[thread]) : NOT_JUDGED;
-    const move = { number, cpu: this.left(c, cpus), guestPlace, guest: this.left(guestPlace, guests), lockPlace, lock: lockPlace < 0 ? -1 : pieces.numberOf(lockPlace),
-      others, remote: this.remoteOf(others, c), entry: kernel.entry, steps, faults, isChanged, isKeeping: false };
-    move.isKeeping = this.isKeeping(move, row, c);
-    return move;
+  take(row, c, meeting) {
+    const { pieces } = this, lockPlace = this.lockPlaces[meeting], kernel = pieces.loadFor(row, c, lockPlace), cpu = kernel.cpus[c], at = MOVE * this.count++;
+    const { thread } = pieces.says[row[c]], lock = pieces.locks[lockPlace - pieces.locksAt], before = kernel.blocks.get(lock), [, part] = kernel.step(c);
+    if (at === this.table.length) this.table = this.memory.longer(this.table);
+    this.table[at] = -1;
+    if (part === "misses" || part === "") return;
+    while (this.bySections && cpu.section !== null) kernel.step(c);
+    const guest = kernel.guests[thread], effects = before instanceof BufferBlock ? judgedEdit(before, kernel.blocks.get(lock), kernel.entry, guest) : 0;
+    if (kernel.entry !== null && !pieces.isEndless) this.entries.set(this.count - 1, kernel.entry);
+    const threadAt = thread < 0 ? -1 : pieces.guestsAt + thread, [cpus, guests] = this.lefts[meeting], from = this.othersEnd;
+    this.takeOthers(thread);
+    const left = [this.left(c, cpus), this.left(threadAt, guests), lockPlace < 0 ? -1 : pieces.numberOf(lockPlace)];
+    this.table.set([...left, threadAt, lockPlace, from, this.othersEnd], at);
+    const isSection = this.bySections && part === "draws";
+    this.table[at + MARKS] = effects | (this.isKeeping(at, row, c) ? IS_KEEPING : 0) | (isSection ? IS_SECTION : 0);
   }
 
   // The piece that a move left at a place. Moves of the same CPU's piece and thread's often leave the same, so these are compared first.
@@ -100,28 +107,25 @@ class Moves {
     return number;
   }
 
-  // The places of threads that have a place by a move, but for that which the CPU runs, each with the number of the new one.
-  othersMoved(thread) {
-    const { kernel, guestsAt } = this.pieces, others = [];
-    kernel.guests.forEach(({ place }, t) => { if (place !== UNSET && t !== thread) others.push(guestsAt + t, this.placeNumber(place)); });
-    return others;
-  }
-
-  // Those of another home than a CPU, by their numbers.
-  remoteOf(others, c) {
-    const { kernel, guestsAt } = this.pieces, remote = [];
-    for (let i = 0; i < others.length; i += 2) if (kernel.guests[others[i] - guestsAt].home !== c) remote.push(others[i] - guestsAt, others[i + 1]);
-    return remote;
+  // Keeps the threads that have a place by a move, but for that which the CPU runs.
+  takeOthers(thread) {
+    const { guests } = this.pieces.kernel, { guestsAt } = this.pieces;
+    for (let t = 0; t < guests.length; t++) {
+      if (guests[t].place === UNSET || t === thread) continue;
+      if (this.othersEnd === this.others.length) this.others = this.memory.longer(this.others);
+      this.others[this.othersEnd++] = guestsAt + t;
+      this.others[this.othersEnd++] = this.placeNumber(guests[t].place);
+    }
   }
 
   // Makes a row what it is behind a move.
-  apply(move, row, c) {
-    const { others, guestPlace, lockPlace } = move, trace = this.pieces.tracesAt + c;
-    row[c] = move.cpu;
-    if (guestPlace >= 0) row[guestPlace] = move.guest;
-    if (lockPlace >= 0) row[lockPlace] = move.lock;
-    for (let i = 0; i < others.length; i += 2) row[others[i]] = this.movedTo(row[others[i]], others[i + 1], others[i]);
-    if (move.entry && !this.pieces.isEndless) row[trace] = this.longerTrace(row[trace], move, trace);
+  apply(number, row, c) {
+    const { table, others } = this, at = MOVE * number, trace = this.pieces.tracesAt + c, entry = this.entries.get(number);
+    row[c] = table[at + OF_CPU];
+    if (table[at + THREAD_AT] >= 0) row[table[at + THREAD_AT]] = table[at + OF_THREAD];
+    if (table[at + LOCK_AT] >= 0) row[table[at + LOCK_AT]] = table[at + OF_LOCK];
+    for (let i = table[at + OTHERS_FROM]; i < table[at + OTHERS_TO]; i += 2) row[others[i]] = this.movedTo(row[others[i]], others[i + 1], others[i]);
+    if (entry !== undefined) row[trace] = this.longerTrace(row[trace], number, entry, trace);
   }
 
   // The number of a place's words.
@@ -138,14 +142,14 @@ class Moves {
   }
 
   // A trace with an entry more at its end.
-  longerTrace(trace, move, at) {
-    const number = this.longer.number(trace, move.number);
-    if (number === this.traces.length) this.traces.push(this.putNumber(at, [...this.pieces.kept[trace], move.entry]));
+  longerTrace(trace, move, entry, at) {
+    const number = this.longer.number(trace, move);
+    if (number === this.traces.length) this.traces.push(this.putNumber(at, [...this.pieces.kept[trace], entry]));
     return this.traces[number];
   }
 
   putNumber(at, kept) {
-    this.memory.take(MOVE_BYTES / 2);
+    this.memory.take(ROOM_OF_MOVE);
     this.pieces.loaded[at] = -1;
     this.pieces.put(at, kept);
     return this.pieces.numberOf(at);
@@ -155,23 +159,26 @@ class Moves {
 
   // Whether the laws on states hold behind a move where they hold before it, if they do of the threads that it only moved: its three pieces have the same
   // threads as before and break no law, and who works on a buffer is its owner. A former owner is one of these threads, or the buffer's owner still.
-  isKeeping(move, row, c) {
-    const { says, locksAt, guestsAt, owners } = this.pieces, { guestPlace, lockPlace, others } = move, thread = guestPlace - guestsAt;
-    const lock = lockPlace - locksAt, places = [c, guestPlace, lockPlace], pieces = [move.cpu, move.guest, move.lock], { counts } = this;
-    let isKept = true;
-    places.forEach((place, i) => {
-      if (place < 0) return;
-      for (const t of says[row[place]].threads) counts[t]++;
-      for (const t of says[pieces[i]].threads) counts[t]--;
-      isKept &&= says[pieces[i]].broken === 0;
+  isKeeping(at, row, c) {
+    const { says, locksAt, guestsAt, owners, threads, brokens } = this.pieces, { table, counts } = this, threadAt = table[at + THREAD_AT], lockAt = table[at + LOCK_AT];
+    [c, threadAt, lockAt].forEach((place, i) => {
+      if (place >= 0) countThreads(threads[row[place]], counts, 1);
+      if (place >= 0) countThreads(threads[table[at + i]], counts, -1);
     });
-    if (!counts.every(count => count === 0)) {
+    if (counts.some(count => count !== 0)) {
       counts.fill(0);
       return false;
     }
-    const works = guestPlace < 0 ? -1 : says[move.guest].works, [former, owner] = lockPlace < 0 ? [-1, -1] : [owners[row[lockPlace]], owners[move.lock]];
-    const isOwner = works < 0 || (works === lock ? owner === thread : works === says[row[guestPlace]].works);
-    return isKept && isOwner && (former === owner || former < 0 || former === thread || others.some((place, i) => i % 2 === 0 && place - guestsAt === former));
+    const thread = threadAt - guestsAt, lock = lockAt - locksAt, works = threadAt < 0 ? -1 : says[table[at + OF_THREAD]].works;
+    const [former, owner] = lockAt < 0 ? [-1, -1] : [owners[row[lockAt]], owners[table[at + OF_LOCK]]];
+    const isOwner = works < 0 || (works === lock ? owner === thread : works === says[row[threadAt]].works), isKept = i => table[at + i] < 0 || brokens[table[at + i]] === 0;
+    return [OF_CPU, OF_THREAD, OF_LOCK].every(isKept) && isOwner && (former === owner || former < 0 || former === thread || this.isOther(at, former + guestsAt));
+  }
+
+  // Whether a move only moves the thread of a place.
+  isOther(at, place) {
+    for (let i = this.table[at + OTHERS_FROM]; i < this.table[at + OTHERS_TO]; i += 2) if (this.others[i] === place) return true;
+    return false;
   }
 
   // Of a thread that is only moved, by its two pieces: the buffer whose owner it has to be behind the move, -1 for none, or UNTOLD.
@@ -181,25 +188,32 @@ class Moves {
   }
 
   // Whether the laws on states hold of the CPU's own threads that a move only moved.
-  areDueMet(move, row, c) {
-    const { locksAt, guestsAt, owners, kernel } = this.pieces, { others, lockPlace } = move;
-    return others.every((place, i) => {
-      if (i % 2 === 1 || kernel.guests[place - guestsAt].home !== c) return true;
-      const due = this.dueOf(row[place], this.movedTo(row[place], others[i + 1], place));
-      return due === -1 || (due === lockPlace - locksAt ? owners[move.lock] === place - guestsAt : due >= 0 && due === this.pieces.says[row[place]].works);
-    });
+  areDueMet(number, row, c) {
+    const { locksAt, guestsAt, owners, kernel, says } = this.pieces, { table, others } = this, at = MOVE * number, lock = table[at + LOCK_AT] - locksAt;
+    const isMet = (place, words) => {
+      const due = this.dueOf(row[place], this.movedTo(row[place], words, place));
+      return due === -1 || (due === lock ? owners[table[at + OF_LOCK]] === place - guestsAt : due >= 0 && due === says[row[place]].works);
+    };
+    for (let i = table[at + OTHERS_FROM]; i < table[at + OTHERS_TO]; i += 2) {
+      if (kernel.guests[others[i] - guestsAt].home === c && !isMet(others[i], others[i + 1])) return false;
+    }
+    return true;
   }
 }
 
-// The laws on effects that the edit of a buffer's block breaks, where they held before it, and whether what the buffer holds is changed.
-const NOT_JUDGED = { faults: 0, isChanged: false };
+// Counts threads, each of which is a letter.
+function countThreads(threads, counts, by) {
+  for (let i = 0; i < threads.length; i++) counts[threads.charCodeAt(i)] += by;
+}
+
+// The laws on effects that the edit of a buffer's block breaks, where they held before it, and whether what the buffer holds is changed, as marks.
 function judgedEdit(before, after, entry, guest) {
-  if (entry === null && before.items === after.items && before.closed === after.closed) return NOT_JUDGED;
+  if (entry === null && before.items === after.items && before.closed === after.closed) return 0;
   const held = before.items.map(spelledMessage), left = after.items.map(spelledMessage), [, t, kind, , value] = entry ?? [];
   const wanted = kind === "send" ? [...held, value] : kind === "recv" ? held.slice(1) : held;
   const isKept = left.join(" ") === wanted.join(" "), isLost = !isKept || (kind === "recv" && held[0] !== value), side = entry && guest.call().side;
   const isOutOfTurn = entry && kind !== "close" && before.line[side][0] !== t, isClosed = before.closed || kind === "close";
   const isFalse = (entry && whyNot(kind, before.items.length, before.closed, before.capacity) !== null) || isClosed !== after.closed;
   const faults = (isLost ? BIT.lost : 0) | (isOutOfTurn ? BIT.order : 0) | (isFalse ? BIT.answer : 0);
-  return { faults, isChanged: Boolean(entry) || held.join(" ") !== left.join(" ") || before.closed !== after.closed };
+  return faults | (entry || held.join(" ") !== left.join(" ") || before.closed !== after.closed ? IS_CHANGED : 0);
 }

@@ -3,7 +3,7 @@
 // the piece says of the laws. A lock is kept as its block and who stands in its line, so that two states which differ only in how often a lock was taken are one.
 // A row has the numbers of a state's pieces, one for each place.
 
-const PIECE_BYTES = 1000; // about what a piece takes
+const PIECE_BYTES = 1000, LOCK_BYTES = 200; // about what a piece takes beside its text: of a CPU, a thread or a trace; of a lock
 const UNSET = ""; // the place of a thread that has none yet
 const AFTER_EFFECT = ["Other", "Own", "RelQ", "Returns"]; // the stages of a call that has taken effect and not returned
 const LAW_BITS = new Map([...LAWS.keys()].map((law, i) => [law, 1 << i]));
@@ -34,19 +34,36 @@ function isSameList(list, other) {
 const isSameCpu = ({ current, hand, ready, begun, section }, known) => section === null && known.section === null && current === known.current
   && hand === known.hand && begun === known.begun && isSameList(ready, known.ready);
 
+const numbersIn = text => (text === "" ? [] : text.split(",").map(Number));
+
+// The block of a text.
+function bufferIn(text, capacity) {
+  const block = new BufferBlock(capacity), [owner, held, sleepers, receivers, senders, receive, send, effects, received, sent, closed, closes] = text.split(";");
+  block.owner = owner === "null" ? null : Number(owner);
+  if (held !== "") block.items = held.split(" ").map(words => (words === "-" ? [] : words.split(",").map(BigInt)));
+  [block.sleepers, ...block.waiting] = [sleepers, receivers, senders].map(numbersIn);
+  block.line = [receive, send].map(numbersIn);
+  [block.effects, ...block.positions] = [effects, received, sent].map(Number);
+  block.closed = closed === "true";
+  block.closes = Number(closes);
+  return block;
+}
+
 // A buffer's block without what no step reads.
 function withoutHistory(block) {
   if (block instanceof PendingBlock || (block.effects === 0 && block.closes === 0 && block.positions[0] === 0 && block.positions[1] === 0)) return block;
   return Object.assign(block.copied(), { effects: 0, positions: [0, 0], closes: 0 });
 }
 
-// What a piece says of the laws and of the next step: the threads that stand in it and the laws broken there; of a CPU the lock that it is inside of; of a thread
-// the buffer that it works on, and whether it has ended; of a buffer its owner; whether a CPU or a queue has nothing to do.
-const SILENT = { threads: [], broken: 0, inside: -1, works: -1, owner: -1, isEnded: false, isIdle: true, isFresh: false, begun: 0, length: 0, thread: -1, runs: false, isBetween: false };
+// What a piece says of the laws and of the next step: the threads that stand in it and the laws broken there; of a CPU the lock that it is inside of; of a
+// thread the buffer that it works on, and whether it has ended; of a buffer its owner; whether a CPU has nothing to do.
+const SILENT = { threads: [], broken: 0, inside: -1, works: -1, owner: -1, isEnded: false, isIdle: true, isFresh: false, begun: 0, length: 0, thread: -1,
+  runs: false, isBetween: false };
 
 function cpuSays(kernel, c, locks) {
-  const { current, ready, hand, section, block, begun } = kernel.cpus[c], own = current === null ? ready : [...ready, current], home = t => kernel.guests[t].home;
-  const isAstray = own.some(t => home(t) !== c) || (hand !== null && home(hand) === c), isBetween = section === null && hand === null;
+  const { current, ready, hand, section, block, begun } = kernel.cpus[c], own = current === null ? ready : [...ready, current];
+  const home = t => kernel.guests[t].home, isAstray = own.some(t => home(t) !== c) || (hand !== null && home(hand) === c);
+  const isBetween = section === null && hand === null;
   return {
     ...SILENT, threads: hand === null ? own : [...own, hand], broken: isAstray ? BIT.home : 0, inside: block === null ? -1 : locks.indexOf(section.lock),
     isIdle: isBetween && own.length === 0, isBetween, begun, runs: current !== null, thread: current ?? ready[0] ?? -1,
@@ -59,13 +76,13 @@ function guestSays(kernel, t) {
 }
 
 function pendingSays(kernel, { threads }, c) {
-  return { ...SILENT, threads, broken: threads.some(t => kernel.guests[t].home !== c) ? BIT.home : 0, isIdle: threads.length === 0 };
+  return { threads, broken: threads.some(t => kernel.guests[t].home !== c) ? BIT.home : 0, owner: -1 };
 }
 
 function bufferSays(buffer) {
   const { owner, sleepers, waiting } = buffer, isFree = owner === null, isLost = isFree && (sleepsInVain(buffer, RECEIVERS) || sleepsInVain(buffer, SENDERS));
   const broken = (isLost ? BIT.wakeUp : 0) | (isFree && sleepers.length ? BIT.sleeper : 0);
-  return { ...SILENT, threads: [...sleepers, ...waiting[RECEIVERS], ...waiting[SENDERS]], broken, owner: owner ?? -1 };
+  return { threads: [...sleepers, ...waiting[RECEIVERS], ...waiting[SENDERS]], broken, owner: owner ?? -1 };
 }
 
 class Pieces {
@@ -75,7 +92,8 @@ class Pieces {
     const locks = [...kernel.blocks.keys()], locksAt = cpus + guests, tracesAt = locksAt + locks.length;
     Object.assign(this, { kernel, isEndless, locks, guestsAt: cpus, locksAt, tracesAt, count: tracesAt + (isEndless ? 0 : cpus) });
     this.hasCopies = wrong === "look-always-hits"; // then a CPU inside has a copy of its own; else the block is nobody else's
-    Object.assign(this, { memory, numbers: new Map(), kept: [], says: [], owners: [], loaded: new Int32Array(this.count).fill(-1) });
+    // of each piece: its number by its text, what is put again of it (of a lock its text), and what it says; threads are letters, since most pieces are locks
+    Object.assign(this, { memory, numbers: new Map(), kept: [], says: [], threads: [], brokens: [], owners: [], loaded: new Int32Array(this.count).fill(-1) });
   }
 
   // ---- from the kernel to numbers
@@ -84,11 +102,13 @@ class Pieces {
   numberOf(place) {
     const text = this.textAt(place), known = this.numbers.get(text);
     if (known !== undefined) return known;
-    this.memory.take(PIECE_BYTES);
-    const said = this.saysOf(place);
+    const isLock = place >= this.locksAt && place < this.tracesAt, said = this.saysOf(place);
+    this.memory.take((isLock ? LOCK_BYTES : PIECE_BYTES) + text.length);
     this.numbers.set(text, this.kept.length);
-    this.kept.push(this.keptAt(place));
-    this.says.push(said);
+    this.kept.push(isLock ? text : this.keptAt(place));
+    this.says.push(isLock ? SILENT : said);
+    this.threads.push(String.fromCharCode(...said.threads));
+    this.brokens.push(said.broken);
     this.owners.push(said.owner);
     return this.kept.length - 1;
   }
@@ -112,8 +132,8 @@ class Pieces {
     if (place < guestsAt) return `${place}:${this.cpuText(kernel.cpus[place])}`;
     if (place < locksAt) return `${place}:${this.guestText(kernel.guests[place - guestsAt])}`;
     if (place >= tracesAt) return `${place}:${kernel.cpus[place - tracesAt].trace.join(";")}`;
-    const { block, line } = this.lockPiece(this.locks[place - locksAt]);
-    return `${place}:${blockText(block)}:${line}`;
+    const lock = this.locks[place - locksAt], block = kernel.blocks.get(lock);
+    return `${place}:${blockText(this.isEndless ? withoutHistory(block) : block)}:${this.lineText(lock)}`;
   }
 
   cpuText({ current, hand, ready, begun, section, block }) {
@@ -130,18 +150,17 @@ class Pieces {
     return !this.isEndless || AFTER_EFFECT.includes(stage);
   }
 
-  // A lock's block, and the CPUs in its line.
-  lockPiece(lock) {
-    const { kernel, isEndless } = this, block = kernel.blocks.get(lock), at = [];
-    kernel.cpus.forEach(({ section, ticket }, c) => { if (section?.lock === lock) at.push([ticket, c]); });
-    return { block: isEndless ? withoutHistory(block) : block, line: at.length === 0 ? at : at.sort((x, y) => x[0] - y[0]).map(([, c]) => c) };
+  // The CPUs in the line of a lock.
+  lineText(lock) {
+    const { cpus } = this.kernel, at = [];
+    for (let c = 0; c < cpus.length; c++) if (cpus[c].section !== null && cpus[c].section.lock === lock) at.push([cpus[c].ticket, c]);
+    return at.length === 0 ? "" : `${at.sort((x, y) => x[0] - y[0]).map(([, c]) => c)}`;
   }
 
-  // The same, to be put again.
+  // What the kernel has at the place of a CPU, a thread or a trace, to be put again.
   keptAt(place) {
-    const { kernel, guestsAt, locksAt, tracesAt, isEndless } = this;
+    const { kernel, guestsAt, tracesAt, isEndless } = this;
     if (place >= tracesAt) return kernel.cpus[place - tracesAt].trace;
-    if (place >= locksAt) return this.lockPiece(this.locks[place - locksAt]);
     if (place >= guestsAt) {
       const { line, registers, stage, position, effect, place: at } = kernel.guests[place - guestsAt];
       return { line, registers: [...registers], stage, position: isEndless ? 0 : position, effect: this.hasEffect(stage) ? effect : null, place: at };
@@ -199,8 +218,9 @@ class Pieces {
     else this.putCpu(kernel.cpus[place], kept);
   }
 
-  putLock(lock, { block, line }) {
-    this.kernel.blocks.set(lock, block);
+  putLock(lock, text) {
+    const [, held, inLine] = text.split(":"), line = numbersIn(inLine), before = this.kernel.blocks.get(lock);
+    this.kernel.blocks.set(lock, before instanceof PendingBlock ? Object.assign(new PendingBlock(), { threads: numbersIn(held) }) : bufferIn(held, before.capacity));
     this.kernel.words.set(lock, { next: line.length, serving: 0 });
     line.forEach((c, ticket) => { this.kernel.cpus[c].ticket = ticket; });
   }

@@ -116,7 +116,7 @@ class States {
     this.states.open(looked, now);
     while (this.cpu < cpus) {
       const c = this.cpu++, move = this.moveOf(c);
-      if (move === null) continue;
+      if (move < 0) continue;
       this.moved++;
       const found = this.goTo(move, c, asked);
       if (found !== null) return found;
@@ -124,20 +124,20 @@ class States {
     return null;
   }
 
-  // The move of a CPU, or null if it would change nothing. Keeps what becomes of its group (-1: that is to be made anew), and whether laws on states that hold
+  // The number of a CPU's move, or -1 if it would change nothing. Keeps what becomes of its group (-1: that is to be made anew), and whether laws on states that hold
   // before it hold behind it.
   moveOf(c) {
     const { now, deeds, cpus } = this, kind = this.groups[c].kinds[now[c]] & KIND, key = now[c] * cpus + c;
     this.group = -1;
     this.isClean = false;
-    if (kind === HALTED) return null;
+    if (kind === HALTED) return -1;
     if (kind === FOREIGN) return this.moves.of(this.rowOf(now), c);
     const lock = kind === NO_LOCK ? -1 : this.lockAt(kind - FIRST_LOCK), kept = deeds.placeOf(key, lock);
     const at = deeds.has(kept, key, lock) ? kept : this.learn(c, key, lock), deed = deeds.entries[at + 3];
-    if (deed < 0) return null;
+    if (deed < 0) return -1;
     this.group = deeds.entries[at + 2];
     this.isClean = deed % 2 === 1;
-    return this.moves.moves[deed >> 1];
+    return deed >> 1;
   }
 
   // The piece of a lock, by its number: those of buffers come first.
@@ -149,23 +149,23 @@ class States {
   // Finds what becomes of a CPU's group at a lock.
   learn(c, key, lock) {
     const { moves } = this, row = this.rowOf(this.now), move = moves.of(row, c);
-    if (move === null) return this.deeds.keep(key, lock, -1, -1);
-    const isClean = move.isKeeping && moves.areDueMet(move, row, c);
+    if (move < 0) return this.deeds.keep(key, lock, -1, -1);
+    const isClean = (moves.table[MOVE * move + MARKS] & IS_KEEPING) !== 0 && moves.areDueMet(move, row, c);
     moves.apply(move, row, c);
-    return this.deeds.keep(key, lock, this.groups[c].numberOf(row), 2 * move.number + (isClean ? 1 : 0));
+    return this.deeds.keep(key, lock, this.groups[c].numberOf(row), 2 * move + (isClean ? 1 : 0));
   }
 
   // Takes a move to its state; returns how that is reached if it is new and wanted, or if the move breaks a law that is wanted; or null.
   goTo(move, c, asked) {
-    const { looked, count, isEndless } = this, number = this.after(move, c), isNew = number === count;
-    const effects = asked.hasLaws && (isNew || isEndless) ? this.effectFaults(move, looked, c) : 0;
+    const { looked, count, isEndless } = this, marks = this.moves.table[MOVE * move + MARKS], steps = (marks & IS_SECTION) === 0 ? 1 : 3;
+    const number = this.after(move, c), isNew = number === count, effects = asked.hasLaws && (isNew || isEndless) ? this.effectFaults(marks, looked, c) : 0;
     if (isNew) {
       this.from[number] = looked;
-      this.by[number] = 2 * c + (move.steps > 1 ? 1 : 0);
+      this.by[number] = 2 * c + (steps > 1 ? 1 : 0);
       this.isClean &&= (this.marks[looked] & STATE_BITS) === 0;
-      return this.seen(number, effects, this.next, asked) ? this.ended(number, looked, c, move.steps) : null;
+      return this.seen(number, effects, this.next, asked) ? this.ended(number, looked, c, steps) : null;
     }
-    return (effects & asked.wanted.bits) === 0 ? null : { from: looked, cpu: c, steps: move.steps, number: null };
+    return (effects & asked.wanted.bits) === 0 ? null : { from: looked, cpu: c, steps, number: null };
   }
 
   // What is told of a state that is wanted. A state without history is an end only if it breaks a law itself: other moves lead to it that break none.
@@ -190,12 +190,14 @@ class States {
   }
 
   // Puts what a move leaves beside the CPU's own group: the lock, and threads of other CPUs which it only moved.
-  putOthers({ lock, lockPlace, remote }, c) {
-    const { next, pieces, cpus } = this, number = lockPlace - pieces.locksAt, buffers = next.length - cpus, { guests } = pieces.kernel;
-    if (number >= buffers && number - buffers !== c) this.shift(number - buffers, MOVED_PLACES + lock);
-    else if (number >= 0 && number < buffers) next[cpus + number] = lock;
-    for (let i = 0; i < remote.length; i += 2) {
-      const t = remote[i], due = this.shift(guests[t].home, t * MOST_PLACES + remote[i + 1]);
+  putOthers(move, c) {
+    const { next, pieces, cpus } = this, { table, others } = this.moves, at = MOVE * move, lock = table[at + LOCK_AT] - pieces.locksAt, buffers = next.length - cpus;
+    if (lock >= buffers && lock - buffers !== c) this.shift(lock - buffers, MOVED_PLACES + table[at + OF_LOCK]);
+    else if (lock >= 0 && lock < buffers) next[cpus + lock] = table[at + OF_LOCK];
+    for (let i = table[at + OTHERS_FROM]; i < table[at + OTHERS_TO]; i += 2) {
+      const t = others[i] - pieces.guestsAt, { home } = pieces.kernel.guests[t];
+      if (home === c) continue;
+      const due = this.shift(home, t * MOST_PLACES + others[i + 1]);
       this.isClean &&= due === -1 || (due >= 0 && pieces.owners[next[cpus + due]] === t);
     }
   }
@@ -225,10 +227,10 @@ class States {
   // ---- the laws
 
   // The laws on effects that are broken behind a move. Where all hold before it, the move tells; where one is broken, what was received and sent since does.
-  effectFaults(move, origin, c) {
+  effectFaults(marks, origin, c) {
     const before = this.marks[origin] & EFFECT_BITS;
-    if (!move.isChanged) return this.isEndless ? 0 : before;
-    if (this.isEndless || (before === 0 && mayGoBySections(this.wrong))) return move.faults;
+    if ((marks & IS_CHANGED) === 0) return this.isEndless ? 0 : before;
+    if (this.isEndless || (before === 0 && mayGoBySections(this.wrong))) return marks & EFFECT_BITS;
     const earlier = orderOf(tracesOf(this.loaded(this.now)), this.plan.buffers.length);
     const bits = faultsIn(this.loaded(this.next), { earlier, cpu: c }).map(([law]) => bitOf(law));
     return bits.reduce((all, bit) => all | bit, 0) & EFFECT_BITS;
@@ -236,17 +238,18 @@ class States {
 
   // The laws on where threads stand, who owns and who sleeps, that are broken in a state.
   stateFaults(row) {
-    const { says, guestsAt, locksAt, tracesAt } = this.pieces, { standing } = this, stamp = ++this.stamp;
+    const { says, guestsAt, locksAt, tracesAt, owners, threads, brokens } = this.pieces, { standing } = this, stamp = ++this.stamp;
     let faults = 0, count = 0;
     for (let place = 0; place < tracesAt; place++) {
-      const { broken, threads, works } = says[row[place]];
-      faults |= broken;
-      for (const t of threads) {
+      const own = threads[row[place]], { works } = says[row[place]];
+      faults |= brokens[row[place]];
+      for (let i = 0; i < own.length; i++) {
+        const t = own.charCodeAt(i);
         if (standing[t] === stamp) faults |= BIT.place;
         standing[t] = stamp;
       }
-      count += threads.length;
-      if (works >= 0 && says[row[locksAt + works]].owner !== place - guestsAt) faults |= BIT.owner;
+      count += own.length;
+      if (works >= 0 && owners[row[locksAt + works]] !== place - guestsAt) faults |= BIT.owner;
     }
     return count === standing.length ? faults : faults | BIT.place;
   }
