@@ -139,7 +139,7 @@ function partInWords(seen, {cpu, word, part, entry}) {
   return {first: EDITS[word](seen), small: edits};
 }
 
-const HALTS = {AllEnded: "all its threads have ended", TraceFull: "its trace is full: the plan's key trace says how many calls it has room for"};
+const HALTS = {AllEnded: "all its threads have ended", TraceFull: "its trace is full: enlarge trace in the plan"};
 
 // The words of step `at`: who acts, one sentence on what was done, the mechanics in small, and whether a call took effect.
 function wordsOf(run, at) {

@@ -38,7 +38,7 @@ def git(*words):
 def packed(program):
     """The program as it stands in the page: gzipped, in base 85 without the sign that begins a tag, in lines."""
     text = base64.b85encode(gzip.compress(program, 9, mtime=0)).decode().replace("<", ",")
-    return "\n".join(text[i:i + 160] for i in range(0, len(text), 160))
+    return "\n".join(text[i:i + 8000] for i in range(0, len(text), 8000))
 
 
 def kept():

@@ -20,18 +20,14 @@ const HALTED = 0, FOREIGN = 1, NO_LOCK = 2, FIRST_LOCK = 3, KIND = 63, RESTS = 6
 
 class Moves {
   constructor(pieces, bySections, memory) {
-    Object.assign(this, { pieces, bySections, memory, homes: pieces.kernel.cpus.map((_, c) => Moves.homeOf(pieces, c)) });
+    const { guests, cpus } = pieces.kernel, homeOf = c => guests.flatMap(({ home }, t) => (home === c ? [pieces.guestsAt + t] : []));
+    Object.assign(this, { pieces, bySections, memory, homes: cpus.map((_, c) => homeOf(c)), counts: guests.map(() => 0) });
     // a CPU's piece and its thread's, the place of the lock that they go to, or -1, and pieces that moves left of them; these and the lock's piece, and the move
     Object.assign(this, { meetings: new Pairs(memory), lockPlaces: [], lefts: [], known: new Pairs(memory), count: 0, othersEnd: 0 });
     Object.assign(this, { table: new Int32Array(MOVE * ROOM), others: new Int32Array(ROOM), entries: new Map() });
     // moved threads, longer traces; how often each thread is in some pieces
     Object.assign(this, { placeWords: [], movings: new Pairs(memory), moved: [], longer: new Pairs(memory), traces: [] });
-    this.counts = pieces.kernel.guests.map(() => 0);
     memory.take(4 * (MOVE + 1) * ROOM);
-  }
-
-  static homeOf({ kernel, guestsAt }, c) {
-    return kernel.guests.flatMap(({ home }, t) => (home === c ? [guestsAt + t] : []));
   }
 
   // ---- what a CPU does next

@@ -214,7 +214,7 @@ class Pieces {
     const { kernel } = this;
     if (place >= this.tracesAt) kernel.cpus[place - this.tracesAt].trace = kept;
     else if (place >= this.locksAt) this.putLock(this.locks[place - this.locksAt], kept);
-    else if (place >= this.guestsAt) Pieces.putGuest(kernel.guests[place - this.guestsAt], kept);
+    else if (place >= this.guestsAt) Object.assign(kernel.guests[place - this.guestsAt], kept, { registers: [...kept.registers] });
     else this.putCpu(kernel.cpus[place], kept);
   }
 
@@ -223,15 +223,6 @@ class Pieces {
     this.kernel.blocks.set(lock, before instanceof PendingBlock ? Object.assign(new PendingBlock(), { threads: numbersIn(held) }) : bufferIn(held, before.capacity));
     this.kernel.words.set(lock, { next: line.length, serving: 0 });
     line.forEach((c, ticket) => { this.kernel.cpus[c].ticket = ticket; });
-  }
-
-  static putGuest(guest, { line, registers, stage, position, effect, place }) {
-    guest.line = line;
-    guest.registers = [...registers];
-    guest.stage = stage;
-    guest.position = position;
-    guest.effect = effect;
-    guest.place = place;
   }
 
   putCpu(cpu, { current, hand, ready, begun, section, isInside, copy }) {

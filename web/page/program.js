@@ -8,7 +8,7 @@ class Ended extends Error {
   }
 }
 
-// The digits of the numbers to base 85 in which the program stands in the page, five for four bytes.
+// The digits of base 85, of which five spell four bytes.
 const DIGITS = "0123456789ABCDEFGHIJKLMNOPQRSTUVWXYZabcdefghijklmnopqrstuvwxyz!#$%&()*+-;,=>?@^_`{|}~";
 
 function bytesOf(text) {

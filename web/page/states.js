@@ -124,8 +124,7 @@ class States {
     return null;
   }
 
-  // The number of a CPU's move, or -1 if it would change nothing. Keeps what becomes of its group (-1: that is to be made anew), and whether laws on states that hold
-  // before it hold behind it.
+  // The number of a CPU's move, or -1 if it would change nothing. Keeps the group that it leaves (-1: to be made anew), and whether it keeps the laws on states.
   moveOf(c) {
     const { now, deeds, cpus } = this, kind = this.groups[c].kinds[now[c]] & KIND, key = now[c] * cpus + c;
     this.group = -1;

@@ -51,23 +51,13 @@ class Guest {
 
 // A buffer's block: what its lock guards. Lists are never changed in place, so a copy keeps its own.
 class BufferBlock {
-  owner = null; items = []; effects = 0; sleepers = []; waiting = [[], []]; line = [[], []]; positions = [0, 0]; closed = false; closes = 0;
-
   constructor(capacity) {
-    this.capacity = capacity;
+    Object.assign(this, { capacity, owner: null, items: [], effects: 0, sleepers: [], waiting: [[], []], line: [[], []], positions: [0, 0], closed: false, closes: 0 });
   }
 
   copied() {
-    const copy = new BufferBlock(this.capacity), { waiting, line, positions } = this;
-    copy.owner = this.owner;
-    copy.items = this.items;
-    copy.effects = this.effects;
-    copy.sleepers = this.sleepers;
-    copy.waiting = [waiting[0], waiting[1]];
-    copy.line = [line[0], line[1]];
-    copy.positions = [positions[0], positions[1]];
-    copy.closed = this.closed;
-    copy.closes = this.closes;
+    const copy = Object.assign(new BufferBlock(this.capacity), this);
+    for (const name of ["waiting", "line", "positions"]) copy[name] = [...this[name]];
     return copy;
   }
 

@@ -169,7 +169,7 @@ function scheduleHint(item) {
   if (item.includes(";")) return ". A comma separates two items";
   if (/^\*|\*$/.test(item)) return ". A number is missing beside *: 0*13 is 13 steps of CPU 0";
   if (isSwapped) return `. The CPU comes first: is ${cpu}*${times} meant?`;
-  return /[^ -~]/.test(item) ? ". Here is a letter that is no plain digit, * or comma" : /^[a-z]+$/i.test(item) ? ". The button random writes one" : "";
+  return /[^ -~]/.test(item) ? ". Here is a letter that is no plain digit" : /^[a-z]+$/i.test(item) ? ". The button random writes one" : "";
 }
 
 // Beside BadSchedule or BadCpu: the item that is wrong.
