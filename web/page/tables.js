@@ -1,5 +1,5 @@
 "use strict";
-// Tables of whole numbers, in typed arrays that grow as they fill, within a limit of bytes.
+// Tables of whole numbers, in typed arrays that grow within a limit of bytes.
 
 class MemoryFull extends Error {}
 
@@ -24,7 +24,7 @@ class Memory {
     }
   }
 
-  // A longer array with the same numbers at its beginning.
+  // A longer array that begins with the same.
   longer(array, length = 2 * array.length) {
     this.take((length - array.length) * array.BYTES_PER_ELEMENT);
     const more = this.made(array.constructor, length);
@@ -134,7 +134,7 @@ class Rows extends Numbered {
   add(row, hash) {
     if (this.keys.BYTES_PER_ELEMENT === 2 && row.some(number => number > 0xffff)) this.widen();
     if (this.isFull()) this.grow();
-    this.keys.set(row, this.width * this.count);
+    for (let i = 0, at = this.width * this.count; i < this.width; i++) this.keys[at + i] = row[i];
     this.enter(this.count, hash);
     return this.count++;
   }
