@@ -191,7 +191,7 @@ def meant(table, name):
     found = difflib.get_close_matches(name, [key for key in table if key not in known], 1, 0.6)
     if found:
         return f". Did you mean {shown(found[0])}, on line {table.lines[found[0]]}?"
-    inner = [value for tables in table.values() if is_array(tables) for value in tables if is_table(value) and name in value]
+    inner = [value for tables in table.values() for value in (tables if is_array(tables) else [tables]) if is_table(value) and name in value]
     return f". One stands on line {inner[0].lines[name]}, below a header: put it above all headers" if inner else ""
 
 

@@ -71,6 +71,8 @@ PLANS = [
      ": the required key cpus is missing: expected an integer, 1 to 16"),
     ("cpus = 1\ntrace = 4\nbuffers = [1]\n[[thread]]\n", "[[thread]]\ncpus = 1\n",
      ": the required key cpus is missing: expected an integer, 1 to 16. One stands on line 2, below a header: put it above all headers"),
+    ("cpus = 1", "[system]\ncpus = 1",
+     ": the required key cpus is missing: expected an integer, 1 to 16. One stands on line 2, below a header: put it above all headers"),
     ('["set r0 7", "send 0 r0", "exit"]', '"exit"',
      ":6: program is a string: expected an array of strings, one for each instruction"),
     ('"exit"', "7",
