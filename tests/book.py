@@ -1,8 +1,9 @@
 #!/usr/bin/env python3
 """Tests the lessons and the names on all pages: runs every command of docs/book and compares its output with the page, byte for byte; searches the tree for
 each file, public name and clause that a page names; compares the plan and the output in README.md with the files, and its version with CHANGELOG.md and the
-help, and the titles of the page's lessons with those of the book; applies the patches of docs; draws each picture again; compares plans/kernel.py with the expected output of each plan; builds and runs, without proof,
-the crates that a page writes (`rt try`). .ci/run calls it; it takes two minutes of processor time, most of it for builds.
+help, and the titles of the page's lessons with those of the book; applies the patches of docs; draws each picture again; compares plans/kernel.py with the
+expected output of each plan; builds and runs, without proof, the crates that a page writes (`rt try`). .ci/run calls it; it takes two minutes of processor
+time, most of it for builds.
 
 In a lesson's run of a kernel with a mistake, each law that the page names must break in the step that the page says, and in no earlier one.
 
