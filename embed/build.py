@@ -158,22 +158,22 @@ def proved_object(jobs):
 # ---- the library
 
 
-def host_objects(room, flags):
+def host_objects(room, flags, host):
     """Compiles the host."""
     objects = []
-    for source in [*sorted(HOST.glob("*.c")), HOST / "switch.S"]:
+    for source in [*sorted(host.glob("*.c")), host / "switch.S"]:
         objects.append(room / f"host-{source.stem}.o")
         run(*compiler(), *(COMPILE if source.suffix == ".c" else []), *flags, "-c", source, "-o", objects[-1])
     return objects
 
 
-def linked(program, out, flags=(), archives=()):
+def linked(program, out, flags=(), archives=(), host=HOST):
     """Links an object of the program with the host, and hides all names but the header's."""
     out.mkdir(parents=True, exist_ok=True)
     with tempfile.TemporaryDirectory() as folder:
         room = Path(folder)
         run("objcopy", *(f"--redefine-sym={old}={new}" for old, new in HOSTED.items()), program, room / "proved.o")
-        run("ld", "-r", "-o", room / "all.o", room / "proved.o", *host_objects(room, flags), *archives)
+        run("ld", "-r", "-o", room / "all.o", room / "proved.o", *host_objects(room, flags, host), *archives)
         run("objcopy", *(f"--keep-global-symbol={it}" for it in public_functions()), room / "all.o", room / "tower.o")
         (out / "libtower.a").unlink(missing_ok=True)
         run("ar", "rcs", out / "libtower.a", room / "tower.o")
