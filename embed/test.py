@@ -249,7 +249,7 @@ def main():
     read = argparse.ArgumentParser(description=__doc__, formatter_class=argparse.RawDescriptionHelpFormatter)
     read.add_argument("--only", nargs="+", choices=KINDS, default=list(KINDS), metavar="KIND")
     read.add_argument("--library", type=Path, metavar="DIR")
-    read.add_argument("--jobs", type=int, default=1, metavar="N", help="processors of the proof, where one is needed")
+    read.add_argument("--jobs", type=int, default=min(2, len(os.sched_getaffinity(0))), metavar="N", help="processors of the proof, if one is needed")
     asked = read.parse_args()
     if lost := build.missing(not asked.library):
         print(f"embed: nothing was tried, since there is no {' and no '.join(lost)} here")

@@ -37,7 +37,10 @@ int main(void) {
   is("take", tower_take(t, &c), TOWER_OK);
   for (size_t length = 1; length <= TOWER_BYTES; length++)
     for (int kind = 0; kind < 12; kind++) goes_over(length, kind);
-  for (size_t length = 1; length <= 8; length++) of_words(length, ~0ull), of_words(length, (uint64_t)8 << 56), of_words(length, 6), of_words(length, ((uint64_t)3 << 56) + (1 << 24));
+  for (size_t length = 1; length <= 8; length++) {
+    of_words(length, ~0ull), of_words(length, (uint64_t)8 << 56);
+    of_words(length, 6), of_words(length, ((uint64_t)3 << 56) + (1 << 24));
+  }
   of_words(1, 0);
   uint64_t words[8];
   is("send bytes", tower_send_bytes(c, 0, "12345678", 8), TOWER_OK);
