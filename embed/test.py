@@ -230,6 +230,8 @@ def names(tried):
                 and "enum { LEAVE, SEND, RECV, CLOSE };" in (EMBED / "host/host.h").read_text())
     told = re.findall(r"^## ([\d.]+)$", (ROOT / "CHANGELOG.md").read_text(), re.M)
     tried.holds("the version is one that CHANGELOG.md has", build.version() in told[:2], build.version())
+    for page, shown in (("tower.3", f'"tower {build.version()}"'), ("rust/Cargo.toml", f'version = "{build.version()}"')):
+        tried.holds(f"{page} has the version", shown in (EMBED / page).read_text())
 
 
 def manual(tried):
