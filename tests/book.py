@@ -54,7 +54,7 @@ PATH = re.compile(r"^\.?[\w-]+(?:/[\w.-]+)+/?$|^[\w-]+\.(?:rt|antt|edit|md|py|sh
 WORD = re.compile(r"^[A-Za-z_]\w*(?:::[A-Za-z_]\w*)*(?:\(\d+\))?$")
 LINK = re.compile(r"\]\(([^):\s]+)\)")
 # The files whose words are the tree's names.
-READ = {".rt", ".antt", ".edit", ".py", ".sh", ".rs", ".js", ".mjs", ".c", ".h", ".S", ".toml", ".patch"}
+READ = {".rt", ".antt", ".edit", ".py", ".sh", ".rs", ".js", ".mjs", ".c", ".h", ".S", ".in", ".toml", ".patch"}
 # A line of a source that is a comment: what only a comment says is not there.
 REMARK = re.compile(r"^\s*(?://|-- |# |/\* ).*$", re.M)
 # What docs cite and no file of this tree says: crates of the kit, and the end of a family of names.
