@@ -1,13 +1,15 @@
 -- The line of a send or a receive of one word is read in one pass, up to the line feed that ends the text.
-use Rattle.std.proofs.Common.{◌≡◌, ◌≢◌, ℕ, ◌+◌, ◌-◌, ◌*◌, ◌%◌, ◌^◌, ◌<◌, ◌≤◌, ◌==◌, true, false, List, [], ◌∷◌, ◌++◌, length, get_or, take, drop, Option, Some, None, Result, refl, sym, ap}
+use Rattle.std.proofs.Common.{◌≡◌, ◌≢◌, ℕ, ◌+◌, ◌-◌, ◌*◌, ◌%◌, ◌^◌, ◌<◌, ◌≤◌, ◌==◌, true, false, List, [], ◌∷◌, ◌++◌, length, get_or, take, drop, Option}
+use Rattle.std.proofs.Common.{Some, None, Result, refl, sym, ap}
 use Rattle.std.proofs.{Common.{◌∙◌, subst, lit<, inl, inr, append_assoc, length-append, arith, rules}, lemmas.{Bool.{cases_lt, Decides.nat_tests}}}
 use Rattle.std.proofs.lemmas.List.{get_or-append_right, get_or-drop, length-drop, take_rest, Elements.All-from_recursion}
 use Rattle.std.specs.{Prelude.{decimal, codes, IfNone, IsSome}, Char.is_ascii_digit, List.{join_with_byte, slice_split}}
 use Rattle.event_log.specs.declared.{ids.TheConstants.BUFFERS, entries.{Kind.Kind, Entry.Entry}}
 use Rattle.event_log.proofs.DigitsLemmas.{ReadsUpTo, reads_one_more, read_digits, short_stays_below, number_to-spelling}
 use Rattle.tracer.specs.declared.{verdicts.Reason.Reason, versions.Version.TheVariants.One}
-use Rattle.tracer.specs.{Versions.{version_of_kind, version_of_entry}, TraceText.{text_line, entry_pieces, value_piece, IsEntryOf}, Judging.{TextProgress, entry_line, step}}
-use Rattle.tracer.specs.{Lines.IsFirstLine, Tallies.StepsTo, Steps.{EndsInLine, StepsOver, entered}}
+use Rattle.tracer.specs.{Versions.{version_of_kind, version_of_entry}, TraceText.{text_line, entry_pieces, value_piece, IsEntryOf}}
+use Rattle.tracer.specs.Judging.{TextProgress, entry_line, step}
+use Rattle.tracer.specs.{Lines.IsFirstLine, Tallies.StepsTo, Steps.{EndsInLine, StepsOver, judged_entry}}
 use Rattle.tracer.proofs.{CutLemmas.{cut_whole, cut_none}, NumeralLemmas.front_number, SplitLemmas.{join_lacks, pieces_again}, VersionLemmas.covers_first_one}
 use Rattle.tracer.proofs.{EntryLemmas.{behind_e, of_version_again, entry_digits_again, entry_in_again}, StepLemmas.{entry_is_line, entries_e}}
 use Rattle.tracer.specs.declared.next_lines.NextLine.TheVariants as wants
@@ -59,7 +61,8 @@ no_feed : (c : ℕ) → c ≡ 10 → (c == 10) ≡ false → {A : Type 0} → A
 no_feed c e other = absurd (grind arith)
 
 -- so it has a line
-pub line_is_there : {A : Type 0} (r : Option A) (text : List ℕ) → EndsInLine text → IfNone r ((k : ℕ) → k < length text → (get_or text k 0 == 10) ≡ false) → IsSome r
+pub line_is_there : {A : Type 0} (r : Option A) (text : List ℕ) → EndsInLine text
+    → IfNone r ((k : ℕ) → k < length text → (get_or text k 0 == 10) ≡ false) → IsSome r
 line_is_there None text is lacks = no_feed (get_or text (length text - 1) 0) is.last (no_last text is lacks)
 line_is_there (Some x) text is lacks = search rules
 
@@ -128,12 +131,12 @@ first_of_line text e behind is small = record {
       (join_lacks 10 32 (entry_pieces e) refl (entry_is_line BUFFERS e (omega arith) small 10 (lit< tt)));
 }
 
-line_entered : (e : Entry) (s : TextProgress) → IsEntryOf BUFFERS e → version_of_entry e ≡ One → entry_line (behind_e e) s ≡ entered e s
-unfolding entry_line entered
+line_entered : (e : Entry) (s : TextProgress) → IsEntryOf BUFFERS e → version_of_entry e ≡ One → entry_line (behind_e e) s ≡ judged_entry e s
+unfolding entry_line judged_entry
 line_entered e s small version = grind (arith, entry_digits_again, of_version_again, entry_in_again, covers_first_one)
 
 step_common : (s : TextProgress) (e : Entry) → s.at ≡ wants.Entries → IsEntryOf BUFFERS e → version_of_entry e ≡ One
-    → step s (join_with_byte 32 (entry_pieces e)) ≡ entered e s
+    → step s (join_with_byte 32 (entry_pieces e)) ≡ judged_entry e s
 unfolding step
 step_common s e at small version =
     let now : TextProgress = record s { at = wants.Entries } in
@@ -141,8 +144,8 @@ step_common s e at small version =
 
 -- an entry that was read, and judged
 pub common_step : (old : TextProgress) (text : List ℕ) (e : Entry) (judged : Result (Unit {0}) Reason) (now : TextProgress) (behind : List ℕ)
-    → old.at ≡ wants.Entries → text ≡ text_line (entry_pieces e) ++ behind → IsEntryOf BUFFERS e → version_of_entry e ≡ One → StepsTo (entered e old) judged now
-    → StepsOver old text judged now behind
+    → old.at ≡ wants.Entries → text ≡ text_line (entry_pieces e) ++ behind → IsEntryOf BUFFERS e → version_of_entry e ≡ One
+    → StepsTo (judged_entry e old) judged now → StepsOver old text judged now behind
 common_step old text e judged now behind at is small version steps = record {
   line = join_with_byte 32 (entry_pieces e);
   is = first_of_line text e behind is small;

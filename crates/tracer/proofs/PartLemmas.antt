@@ -1,9 +1,12 @@
 -- A text that is read and judged in parts has the verdict of the whole.
-use Rattle.std.proofs.Common.{◌≡◌, ℕ, ◌+◌, ◌-◌, ◌<◌, ◌≤◌, List, [], ◌∷◌, ◌++◌, length, take, drop, Option, Some, None, Result, Ok, Err, refl, sym, ap, ◌∙◌, subst}
-use Rattle.std.proofs.{Common.{append_assoc, append-nil, eq-eqb, arith, length-append}, lemmas.List.{drop-take, length-drop, length-take, nil_from_length, take-append-drop, Edits.take-paste}}
+use Rattle.std.proofs.Common.{◌≡◌, ℕ, ◌+◌, ◌-◌, ◌<◌, ◌≤◌, List, [], ◌∷◌, ◌++◌, length, take, drop, Option, Some, None, Result, Ok, Err, refl, sym, ap, ◌∙◌}
+use Rattle.std.proofs.{Common.{append_assoc, append-nil, eq-eqb, arith, length-append, subst}, lemmas.List.{drop-take, length-drop, length-take}}
+use Rattle.std.proofs.lemmas.List.{nil_from_length, take-append-drop, Edits.take-paste}
 use Rattle.{std.{proofs.lemmas.List.Splits.slice_split_at, specs.Io.KnownBytes.{Consumes, IsAtEnd}}, tracer.specs.declared.checking.TextJudge.TextJudge}
-use Rattle.tracer.specs.{declared.verdicts.{Reason.Reason, Verdict.{Verdict, TheVariants.{Yes}}}, Judging.{TextProgress, lines_in, step, verdict_from, verdict_of}}
-use Rattle.tracer.specs.{Inputs.IsReadBehind, Lines.IsFirstLine, Steps.{EndsInLine, StepsOver}, Parts.verdict_behind, Tallies.{progress_of, StepsTo}, Verdicts.{IsTraceOfRun, IsVerdictOn}}
+use Rattle.tracer.specs.declared.verdicts.{Reason.Reason, Verdict.{Verdict, TheVariants.{Yes}}}
+use Rattle.tracer.specs.Judging.{TextProgress, lines_in, step, verdict_from, verdict_of}
+use Rattle.tracer.specs.{Inputs.IsReadBehind, Lines.IsFirstLine, Steps.{EndsInLine, StepsOver}, Parts.verdict_behind, Tallies.{progress_of, StepsTo}}
+use Rattle.tracer.specs.Verdicts.{IsTraceOfRun, IsVerdictOn}
 use Rattle.tracer.proofs.{VerdictLemmas.{line_taken, line_refused}, CommonLemmas.ends_behind_line}
 use lib.Seq.{paste, take-add}
 
@@ -82,9 +85,9 @@ line_over old part now new rest judged behind some so_far over ok next fault =
     }
 
 -- a line with a fault
-pub faulty_line_over : (old : TextJudge) (part : List ℕ) (end : ℕ) (now new : TextJudge) (rest : List ℕ) (judged : Result (Unit {0}) Reason) (after : TextProgress)
-    (behind : List ℕ) (reason : Reason) → AreTakenTo old (take end part) now rest → StepsOver (progress_of now.judge) rest judged after behind
-    → judged ≡ Err reason → new.line ≡ now.line → new.fault ≡ Some reason
+pub faulty_line_over : (old : TextJudge) (part : List ℕ) (end : ℕ) (now new : TextJudge) (rest : List ℕ) (judged : Result (Unit {0}) Reason)
+    (after : TextProgress) (behind : List ℕ) (reason : Reason) → AreTakenTo old (take end part) now rest
+    → StepsOver (progress_of now.judge) rest judged after behind → judged ≡ Err reason → new.line ≡ now.line → new.fault ≡ Some reason
     → (more any : List ℕ) → verdict_behind old (part ++ more) ≡ verdict_behind new any
 faulty_line_over old part end now new rest judged after behind reason so_far over bad same fault more any =
     let steps = subst (λ (r : Result (Unit {0}) Reason). StepsTo (step (progress_of now.judge) over.line) r after) bad over.steps in

@@ -10,8 +10,8 @@ pub record EndsInLine (text : List ℕ) : Type 0 where
   pub last : slice_index text (length text - 1) ≡ 10
 
 -- an entry that was read is judged
-unfoldable pub entered : Entry → TextProgress → Result TextProgress Reason
-entered e s = or_reason (nat_lt s.entries ENTRIES) Range (entry_among e s.buffers)
+unfoldable pub judged_entry : Entry → TextProgress → Result TextProgress Reason
+judged_entry e s = or_reason (nat_lt s.entries ENTRIES) Range (entry_among e s.buffers)
     >>= λ buffers. Ok (record s { lowest = both s.lowest (version_of_entry e); buffers = buffers; entries = s.entries + 1 })
 
 -- the first line of the text is judged, and behind its line feed stands the rest

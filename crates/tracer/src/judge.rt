@@ -51,7 +51,7 @@ pub struct Judge {
 }
 
 impl Judge {
-    ghost use Rattle.tracer.specs.{Tallies.{progress_of, seen_in, StepsTo}, Steps.{entered, EndsInLine, StepsOver}};
+    ghost use Rattle.tracer.specs.{Tallies.{progress_of, seen_in, StepsTo}, Steps.{judged_entry, EndsInLine, StepsOver}};
 
     /// The judge before the first line.
     pub fn new() -> Judge
@@ -169,7 +169,7 @@ impl Judge {
     }
 
     /// The line of an entry, from its second piece on.
-    #[tactic(auto, unfolding(crate::specs::Judging::entry_line, crate::specs::Steps::entered))]
+    #[tactic(auto, unfolding(crate::specs::Judging::entry_line, crate::specs::Steps::judged_entry))]
     fn entry(&mut self, pieces: Pieces<'_>) -> Result<(), Reason>
         ensures { StepsTo (entry_line (left_of pieces.entry) (progress_of self.old)) result (progress_of self.new) }
     {
@@ -187,11 +187,11 @@ impl Judge {
     ///
     /// Errors: `Range` where there were as many entries as there may be, else the first reason against
     /// the entry.
-    #[tactic(auto, unfolding(crate::specs::Steps::entered))]
+    #[tactic(auto, unfolding(crate::specs::Steps::judged_entry))]
     #[inline(always)]
     fn enter(&mut self, entry: &Entry) -> Result<(), Reason>
         requires { (entry.now.op < ENTRIES) × (entry.now.pos < ENTRIES) }
-        ensures { StepsTo (entered entry.now (progress_of self.old)) result (progress_of self.new) }
+        ensures { StepsTo (judged_entry entry.now (progress_of self.old)) result (progress_of self.new) }
     {
         if self.entries >= ENTRIES as u64 {
             return Err(Reason::Range);

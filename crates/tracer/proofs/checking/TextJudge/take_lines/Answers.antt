@@ -7,8 +7,8 @@ pub returns-in-Err-clause-judged : goal.returns-in-Err-clause-judged
 returns-in-Err-clause-judged c = λ more.
     let new : TextJudge = record { judge = c.next_line-judged.new.self; line = c.loop-rest.self.line; fault = Some c.in-Err.reason } in
     faulty_line_over c.args.self.now c.args.part.now c.lines_end-end.result c.loop-rest.self new c.loop-rest.rest.now c.next_line-judged.result.0
-    (progress_of c.next_line-judged.new.self) c.next_line-judged.result.1.now c.in-Err.reason c.loop-rest.invariant c.next_line-judged.ensures c.in-Err.is refl refl
-    more []
+    (progress_of c.next_line-judged.new.self) c.next_line-judged.result.1.now c.in-Err.reason c.loop-rest.invariant c.next_line-judged.ensures c.in-Err.is
+    refl refl more []
 
 pub loop-rest-preserved : goal.loop-rest-preserved
 loop-rest-preserved c =
