@@ -19,7 +19,7 @@ use Rattle.tracer.specs.declared.next_lines.NextLine.TheVariants as wants
 digit_no_feed : (c : ℕ) → is_ascii_digit c ≡ true → c ≢ 10
 digit_no_feed c is e = grind (arith, nat_tests)
 
--- behind a byte that is no line feed the text goes on
+-- after a byte that is no line feed the text continues
 more_behind : (text : List ℕ) (at : ℕ) → EndsInLine text → at < length text → get_or text at 0 ≢ 10 → at + 1 < length text
 more_behind text at is lt other = elim (cases_lt (at + 1) (length text)) [
   | inl more ↦ more
@@ -66,7 +66,7 @@ pub line_is_there : {A : Type 0} (r : Option A) (text : List ℕ) → EndsInLine
 line_is_there None text is lacks = no_feed (get_or text (length text - 1) 0) is.last (no_last text is lacks)
 line_is_there (Some x) text is lacks = search rules
 
--- behind the last line feed there is none
+-- after the last line feed there is none
 pub none_behind : (text : List ℕ) (end : ℕ) → ((k : ℕ) → end ≤ k → k < length text → (get_or text k 0 == 10) ≡ false)
     → slice_split (λ b. b == 10) (drop end text) ≡ drop end text ∷ []
 none_behind text end lacks =
@@ -105,7 +105,7 @@ zero_spelled text some digit e =
     let read = subst (λ (n : ℕ). ReadsUpTo 18446744073709551615 text 1 n) e (first_digit text some digit) in
     digits_spell text 1 0 read (omega arith) (omega arith) (omega arith) (λ more. absurd (omega arith))
 
--- what was spelled, the byte behind it, and what is behind that
+-- what was spelled, the byte after it, and what is after that
 pub number_cut : (text : List ℕ) (count number end : ℕ) → take count text ≡ decimal number → count < length text → get_or text count 0 ≡ end
     → text ≡ decimal number ++ end ∷ take (length text - (count + 1)) (drop (count + 1) text)
 number_cut text count number end spelled inside e =

@@ -14,7 +14,7 @@ unfoldable pub judged_entry : Entry → TextProgress → Result TextProgress Rea
 judged_entry e s = or_reason (nat_lt s.entries ENTRIES) Range (entry_among e s.buffers)
     >>= λ buffers. Ok (record s { lowest = both s.lowest (version_of_entry e); buffers = buffers; entries = s.entries + 1 })
 
--- the first line of the text is judged, and behind its line feed stands the rest
+-- the first line of the text is judged, and after its line feed stands the rest
 pub record StepsOver (old : TextProgress) (text : List ℕ) (judged : Result (Unit {0}) Reason) (now : TextProgress) (behind : List ℕ) : Type 0 where
   pub line : List ℕ
   pub is : IsFirstLine text line behind

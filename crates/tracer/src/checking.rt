@@ -44,7 +44,7 @@ impl TextJudge {
     }
 
     /// Judges the lines that end in the part, up to the first with a fault. Gives how many bytes of
-    /// the part are judged: what stands behind them is the beginning of a line.
+    /// the part are judged: what stands after them is the beginning of a line.
     ///
     /// Requires: the number of a line stays below 2^64.
     #[tactic(auto, using(crate::proofs::PartLemmas::none_taken, crate::proofs::PartLemmas::steps_shorter))]

@@ -47,8 +47,8 @@ fn first_digits(text: &[u8]) -> (u64, usize)
     (number, count)
 }
 
-/// The number of at most `most` that the text begins with, where the byte `end` is behind it, and what
-/// is behind that byte. A number of more than `SHORT` digits is none here.
+/// The number of at most `most` that the text begins with, where the byte `end` is after it, and what
+/// is after that byte. A number of more than `SHORT` digits is none here.
 #[tactic(auto, using(crate::proofs::CommonLemmas::number_cut))]
 #[inline(always)]
 fn number_before(text: &[u8], most: u64, end: u8) -> Option<(u64, &[u8])>
@@ -66,7 +66,7 @@ fn number_before(text: &[u8], most: u64, end: u8) -> Option<(u64, &[u8])>
     Some((number, &text[count + 1..]))
 }
 
-/// The same before a space, behind which the text goes on.
+/// The same before a space, after which the text continues.
 #[inline(always)]
 fn number_before_space(text: &[u8], most: u64) -> Option<(u64, &[u8])>
     requires ends { EndsInLine text.now }
@@ -78,7 +78,7 @@ fn number_before_space(text: &[u8], most: u64) -> Option<(u64, &[u8])>
     Some((number, rest))
 }
 
-/// The word of a send or a receive and a space, and what is behind them.
+/// The word of a send or a receive and a space, and what is after them.
 #[inline(always)]
 fn call_word(text: &[u8]) -> Option<(Kind, &[u8])>
     ensures text { IfSome result (λ x. text.now ≡ kind_word x.0 ++ 32 ∷ x.1.now) }
@@ -103,7 +103,7 @@ fn call_before_space(text: &[u8]) -> Option<(Kind, &[u8])>
     Some((kind, rest))
 }
 
-/// What is behind the letter of an entry and a space.
+/// What is after the letter of an entry and a space.
 #[inline(always)]
 fn letter(text: &[u8]) -> Option<&[u8]>
     ensures text { IfSome result (λ rest. text.now ≡ 101 ∷ 32 ∷ rest.now) }
@@ -125,7 +125,7 @@ fn letter_before_space(text: &[u8]) -> Option<&[u8]>
     Some(rest)
 }
 
-/// The entry whose line the text begins with, and what is behind the line. `None` where the text does
+/// The entry whose line the text begins with, and what is after the line. `None` where the text does
 /// not begin with the line of a send or a receive of one word whose numbers are in range.
 #[inline(always)]
 pub fn common_entry(text: &[u8]) -> Option<(Entry, &[u8])>

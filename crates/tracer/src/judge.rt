@@ -74,7 +74,7 @@ impl Judge {
     }
 
     /// Judges the first line of a text that ends in a line feed. Gives the first reason against it, if
-    /// there is one, and what is behind its line feed. Nearly all lines are those of entries that are
+    /// there is one, and what is after its line feed. Nearly all lines are those of entries that are
     /// read in one pass; any other is cut off first.
     #[tactic(auto, using(crate::proofs::CommonLemmas::common_step))]
     #[inline(always)]
@@ -110,7 +110,7 @@ impl Judge {
         }
     }
 
-    /// The head, behind which the count may come.
+    /// The head, after which the count may come.
     #[tactic(auto, unfolding(crate::specs::Judging::head_line))]
     fn head(&mut self, line: &[u8]) -> Result<(), Reason>
         ensures { StepsTo (head_line line.now (progress_of self.old)) result (progress_of self.new) }

@@ -1,4 +1,4 @@
--- The digits so far are read, where they are few; behind them the text goes on.
+-- The digits so far are read, where they are few; after them the text continues.
 use Rattle.std.proofs.Common.{◌-◌, ◌<◌, ◌≤◌, length}
 use Rattle.event_log.proofs.DigitsLemmas.{ReadsUpTo}
 use Rattle.tracer.proofs.common_lines.first_digits.Given as goal
