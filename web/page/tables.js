@@ -14,7 +14,7 @@ class Memory {
     this.used += bytes;
   }
 
-  // A new array. The browser may have less memory than the limit allows.
+  // A new array. The browser may have no memory for it.
   made(Kind, length) {
     try {
       return new Kind(length);
