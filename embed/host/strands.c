@@ -56,19 +56,12 @@ static void begin(void) {
   __builtin_trap();
 }
 
-/* What an opening touches of each stack, in whole pages. To fault them in with one call costs a fifth of a fault for each. Older systems lack it. */
-#ifndef MADV_POPULATE_WRITE
-#define MADV_POPULATE_WRITE 23
-#endif
-enum { TOUCHED = 352 << 10 };
-
 /* Maps a stack whose first frame begins the strand; 0 if there is no room. `ret` pops `begin`, and leaves the stack as a call would. */
 int has_room(struct strand *s, size_t bytes) {
   char *room = mmap(0, bytes + GUARD_BYTES, PROT_READ | PROT_WRITE, MAP_PRIVATE | MAP_ANONYMOUS | MAP_NORESERVE | MAP_STACK, -1, 0);
   if (room == MAP_FAILED) return 0;
   s->room = room;
   s->bytes = bytes + GUARD_BYTES;
-  (void)madvise(room + s->bytes - TOUCHED, TOUCHED, MADV_POPULATE_WRITE);
   s->valgrind = VALGRIND_STACK_REGISTER(room + GUARD_BYTES, room + s->bytes);
   void **top = (void **)(room + s->bytes) - 2;
   top[0] = (void *)begin;

@@ -30,7 +30,7 @@ static long at_start, at_end;
 static void sends(tower_caller *c, void *arg) {
   (void)arg;
   at_start = allocations;
-  for (uint64_t k = 0; k < 3000; k++) is("send", k % 2 ? tower_send(c, 0, &k, 1) : tower_send_bytes(c, 0, &k, 8), TOWER_OK);
+  for (uint64_t k = 0; k < 1000; k++) is("send", k % 2 ? tower_send(c, 0, &k, 1) : tower_send_bytes(c, 0, &k, 8), TOWER_OK);
   is("close", tower_close(c, 0), TOWER_OK);
 }
 
@@ -39,7 +39,7 @@ static void receives(tower_caller *c, void *arg) {
   size_t count, many = 0;
   (void)arg;
   while (!tower_recv(c, 0, words, &count)) many++;
-  is("received", many, 3000);
+  is("received", many, 1000);
   is("send", tower_send(c, 1, words, 1), TOWER_OK);
   at_end = allocations;
 }

@@ -3,7 +3,7 @@
 #include <stdatomic.h>
 
 #ifndef EACH
-#define EACH 20000
+#define EACH 5000
 #endif
 static atomic_int done;
 
