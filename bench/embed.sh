@@ -29,7 +29,8 @@ crossbeam() {
   local registry=/usr/share/cargo/registry utils channel
   utils=$(ls -d $registry/crossbeam-utils-*/ | tail -n 1)src/lib.rs
   channel=$(ls -d $registry/crossbeam-channel-*/ | tail -n 1)src/lib.rs
-  rustc --edition 2021 -O --cap-lints allow --crate-type rlib --crate-name crossbeam_utils --cfg 'feature="std"' -o "$work/libcrossbeam_utils.rlib" "$utils"
+  rustc --edition 2021 -O --cap-lints allow --crate-type rlib --crate-name crossbeam_utils --cfg 'feature="std"' \
+    --extern cfg_if="$work/libcfg_if.rlib" -o "$work/libcrossbeam_utils.rlib" "$utils"
   rustc --edition 2021 -O --cap-lints allow --crate-type rlib --crate-name crossbeam_channel --cfg 'feature="std"' -L "$work" \
     --extern crossbeam_utils="$work/libcrossbeam_utils.rlib" --extern cfg_if="$work/libcfg_if.rlib" -o "$work/libcrossbeam_channel.rlib" "$channel"
   rustc --edition 2021 -O --cfg crossbeam -L "$work" --extern crossbeam_channel="$work/libcrossbeam_channel.rlib" -o "$work/crossbeam" embed.rs

@@ -113,7 +113,8 @@ def is_as_proved(line):
     named = set(re.findall(r"tower_host_\w+", words.get("foreign", "")))
     many = re.search(r"\((\d+)\)|^(\d+)$", words.get("foreign", ""))
     count = int(many[1] or many[2]) if many else len(named)
-    return words.get("logic") == "proved" and named <= FOREIGN and count == len(FOREIGN) and "bugs" not in words and "hides" not in words
+    is_whole = named <= FOREIGN and count == len(FOREIGN) and "bugs" not in words and "hides" not in words
+    return words.get("logic") == "proved" and words.get("main") == "Threads+Wait" and is_whole
 
 
 def object_built(lib, crate, made, jobs):
