@@ -174,7 +174,8 @@ def at_terminals(to):
     """What kernel.py says on a terminal of a plan whose thread waits for room for ever: after schedules that end at rest, in an idle look, and before."""
     full = to.folder / "full.toml"
     full.write_text(mistakes.PLAN.replace('"exit"', '"send 0 r0"'))
-    return [(re.findall("quiet .*", said), "kernel: deadlock: no thread can ever proceed" in said) for said in (at_terminal(full, steps) for steps in (59, 60, 30))]
+    said = [at_terminal(full, steps) for steps in (59, 60, 30)]
+    return [(re.findall("quiet .*", words), "kernel: deadlock: no thread can ever proceed" in words) for words in said]
 
 
 def at_terminal(plan, steps):
