@@ -394,8 +394,9 @@ def notes_on(plan, name, schedule):
 
 
 def is_deadlocked(kernel):
-    """Whether no thread can ever proceed: some thread has not ended, and no CPU runs one, or has one ready, in its hand or pending. `quiet` says less: a CPU
-    that polls its empty pending queue makes it `no`."""
+    """Whether no thread can ever proceed: some thread has not ended, and no CPU runs one, or has one ready, in its hand or pending.
+
+    `quiet` says less: a CPU that looks into its empty pending queue makes it `no`."""
     is_idle = all(cpu.current is None and cpu.hand is None and not cpu.ready and not cpu.block for cpu in kernel.cpus)
     is_empty = not any(kernel.blocks["pending", c] for c in range(len(kernel.cpus)))
     return is_idle and is_empty and any(guest.place != "Ended" for guest in kernel.guests)

@@ -175,7 +175,7 @@ def at_terminals(to):
     full = to.folder / "full.toml"
     full.write_text(mistakes.PLAN.replace('"exit"', '"send 0 r0"'))
     said = [at_terminal(full, steps) for steps in (59, 60, 30)]
-    return [(re.findall("quiet .*", it), "kernel: deadlock: no thread can ever proceed" in it) for it in said]
+    return [(re.findall("quiet .*", words), "kernel: deadlock: no thread can ever proceed" in words) for words in said]
 
 
 def at_terminal(plan, steps):
