@@ -112,6 +112,7 @@ impl Mcs {
         while node.waits.load(SeqCst) {
             if polls > 0 {
                 polls -= 1;
+                hint::spin_loop();
             } else {
                 thread::yield_now();
             }
