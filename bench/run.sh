@@ -22,7 +22,7 @@ for plan in plan through; do
 done
 
 plain=("$work/plain_check"); mine=("$ours" check)
-run mine "$work/trace"; [ "$(cat "$work/out")" = yes ] || echo "check refuses the trace"
+run mine "$work/trace"; [ "$(cat "$work/out")" = yes ] || echo "check rejects the trace"
 measure "check, 524,288 entries" "$work/trace" 21 30
 
 # Eight threads on fewer processors can take very long over a fair lock, so each turn ends after 10 seconds.

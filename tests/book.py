@@ -85,7 +85,7 @@ def tried(page, program, write, faults):
             count += 1
             came = outcome(command, program)
             if came != said and not write:
-                faults.append(f"{page.name}: `{command}` prints\n{came}and the page says\n{said}")
+                faults.append(f"{page.name}: `{command}` prints\n{came}but the page has\n{said}")
             shown.append(f"$ {command}\n{came}")
         return "".join(shown)
 
@@ -251,7 +251,7 @@ def version(faults):
     told += re.findall(r"^## ([\d.]+)$", (ROOT / "CHANGELOG.md").read_text(), re.M)[:1]
     told += re.findall(r'VERSION: &str = "([\d.]+)"', (ROOT / "crates/mctower/src/line/help_texts.rt").read_text())
     if len(told) < 2 or len(set(told)) != 1:
-        faults.append(f"README.md, CHANGELOG.md and the help tell the versions {', '.join(told)}")
+        faults.append(f"README.md, CHANGELOG.md and the help have the versions {', '.join(told)}")
     return len(told)
 
 

@@ -46,7 +46,7 @@ class Comparisons:
         self.counts[what] += 1
         if came != wanted:
             self.differ += 1
-            print(f"explain: {what}: {case!r}\n  came   {came!r}\n  wanted {wanted!r}")
+            print(f"explain: {what}: {case!r}\n  got      {came!r}\n  expected {wanted!r}")
 
     def run(self, words, given):
         """The exit status of the program, its output and what it says on standard error."""

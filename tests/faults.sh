@@ -15,7 +15,7 @@ cd "$(dirname "$0")/.."
 program=$(realpath "${1:-crates/mctower/out/mctower}")
 [ -x "$program" ] || { echo "faults: build the program first: (cd crates/mctower && rt run -- count --cpus 1 --times 1)"; exit 1; }
 PATH=$PATH:$HOME/.cargo/bin
-command -v rustc > /dev/null || { echo "faults: nothing was refused, since no rustc is here to build what refuses"; exit 1; }
+command -v rustc > /dev/null || { echo "faults: nothing was tested: there is no rustc here to build what fails calls"; exit 1; }
 room=$(mktemp -d)
 trap 'rm -rf "$room"' EXIT
 rustc --edition 2024 -O -C panic=abort --crate-type cdylib -o "$room/librefuse.so" tests/refuse.rs || exit 1

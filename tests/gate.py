@@ -180,7 +180,7 @@ def a_tool_is_missing(rows, room, beside, alone):
             (tools / name).symlink_to(room / "bin" / name)
         (tools / missing).unlink()
         status, lines, events = outcome(room, {}, str(tools))
-        told = [f"gate: nothing was run, since there is no {missing} here", f"gate: failed: {missing}", "0 passed, 1 failed"]
+        told = [f"gate: nothing was run: there is no {missing} here", f"gate: failed: {missing}", "0 passed, 1 failed"]
         rows.is_so(f"without {missing} nothing is run, and that is told", status == 1 and lines == told and not events, "\n".join(lines))
 
 

@@ -46,7 +46,7 @@ class Checks:
         self.count += 1
         if came != wanted:
             self.failed += 1
-            print(f"look_browser: {what}: {came!r} came, and {wanted!r} is wanted")
+            print(f"look_browser: {what}: got {came!r}, expected {wanted!r}")
 
     def open(self, page, link=""):
         self.browser.open(f"file://{self.room}/{page}.html{link}")
@@ -235,7 +235,7 @@ def main(folders):
         return 0
     program = find_browser()
     if not program:
-        print("look_browser: there is no Chromium here, so no page was tried in a browser")
+        print("look_browser: no page was tested in a browser: there is no Chromium here")
         return 0
     with tempfile.TemporaryDirectory() as room:
         make_pages(Path(room))

@@ -18,7 +18,7 @@ completes() {
   local wanted=$1; shift
   COMP_WORDS=("$@") COMP_CWORD=$(($# - 1)) COMPREPLY=()
   _mctower
-  [ "${COMPREPLY[*]}" = "$wanted" ] || { echo "manual: '$*' is completed to '${COMPREPLY[*]}', wanted '$wanted'"; return 1; }
+  [ "${COMPREPLY[*]}" = "$wanted" ] || { echo "manual: '$*' is completed to '${COMPREPLY[*]}', expected '$wanted'"; return 1; }
 }
 
 row 'what the help says' tools/manual.py

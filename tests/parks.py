@@ -128,10 +128,10 @@ def main():
     read.add_argument("program", nargs="?", default=ROOT / "crates/mctower/out/mctower", metavar="PROGRAM")
     rows = Rows(program_at(read.parse_args().program))
     receiver = "recv 0 r0"
-    rows.ends("a thread that nobody sends to", plan(2, [1], thread(0, receiver), thread(1, receiver)), 1_000_000, ["TurnsUsed"] * 2)
-    rows.ends("an ended worker beside one that waits for ever", plan(2, [1], thread(0, "exit"), thread(1, receiver)), 1_000_000, ["AllEnded", "TurnsUsed"])
+    rows.ends("a thread that nobody sends to", plan(2, [1], thread(0, receiver), thread(1, receiver)), 100_000, ["TurnsUsed"] * 2)
+    rows.ends("an ended worker beside one that waits for ever", plan(2, [1], thread(0, "exit"), thread(1, receiver)), 100_000, ["AllEnded", "TurnsUsed"])
     rows.ends("a full trace beside one that waits for ever", plan(2, [1, 2], thread(0, receiver), thread(1, "set r0 1", "send 1 r0", "recv 1 r1", "jnz r0 1")),
-              1_000_000, ["TurnsUsed", "TraceFull"])
+              100_000, ["TurnsUsed", "TraceFull"])
     rows.ends("sixteen CPUs that wait for the last one's close", plan(16, [1], *(thread(it, receiver) for it in range(15)),
               thread(15, *computes_then(1_000_000, "close 0"))), 1_000_000_000, ["AllEnded"] * 16)
     rows.sleeps("a receiver", plan(2, [1], thread(0, *computes_then(LONG, "send 0 r7")), thread(1, receiver)), 1)

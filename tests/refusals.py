@@ -40,7 +40,7 @@ class Refuser:
         written = self.code(NEVER, ALONE, REFUSES)
         self.places = [it.start() for it in re.finditer(re.escape(written), Path(program).read_bytes())]
         if len(self.places) != PLACES:
-            fails(f"allocations are refused otherwise than this script knows: the number stands at {len(self.places)} places, and not at {PLACES}")
+            fails(f"allocations fail in another way than this script knows: the number is at {len(self.places)} places, expected {PLACES}")
 
     @staticmethod
     def code(number, which, answer):
@@ -102,7 +102,7 @@ def tests_of(program):
     written = re.findall(r"^#\[test\]\n(?:#.*\n)*fn (\w+)", SOURCE.read_text(), re.M)
     lost = {f"refusals::{it}" for it in written} ^ set(tests)
     if lost or not tests:
-        fails(f"{len(written)} tests stand in {SOURCE.name}, and {len(tests)} in the program: {', '.join(sorted(lost))}")
+        fails(f"{SOURCE.name} has {len(written)} tests, and the program {len(tests)}: {', '.join(sorted(lost))}")
     return tests
 
 
@@ -120,7 +120,7 @@ def main():
         print(NEVER)
         return
     if len(given.built) != 2:
-        read.error("a PROGRAM and a LIBRARY are wanted")
+        read.error("expected a PROGRAM and a LIBRARY")
     refuser, all_starts = Refuser(*map(os.path.abspath, given.built)), 0
     tests = tests_of(refuser.program)
     for test in tests:

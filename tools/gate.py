@@ -177,9 +177,10 @@ def main():
         print(*BESIDE.split(), *(f"alone {it}" for it in ALONE.split()), sep="\n")
         return 0
     if missing := missing_tools():
-        print(f"gate: nothing was run, since there is no {' and no '.join(missing)} here", f"gate: failed: {', '.join(missing)}", sep="\n")
+        print(f"gate: nothing was run: there is no {' and no '.join(missing)} here", f"gate: failed: {', '.join(missing)}", sep="\n")
         print(f"0 passed, {len(missing)} failed")
         return 1
+    print("gate: `rt ci`, then scripts, then mutants: an hour or more; prints each step when it ends", flush=True)
     gate = Gate()
     with tempfile.NamedTemporaryFile() as minutes:
         os.environ["MINUTES"] = minutes.name

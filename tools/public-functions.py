@@ -87,10 +87,10 @@ def reasons_in(root):
             continue
         said = LINE.fullmatch(line)
         if not said:
-            wrong.append(f"{LIST}:{number}: it is no line 'CRATE FUNCTION: REASON'")
+            wrong.append(f"{LIST}:{number}: expected CRATE FUNCTION: REASON")
             continue
         if line <= before:
-            wrong.append(f"{LIST}:{number}: it does not stand behind the line before it in the order of letters")
+            wrong.append(f"{LIST}:{number}: it is not in alphabetical order")
         before = line
         key = said["crate"], said["function"]
         if key in found:
@@ -129,8 +129,8 @@ TRIAL = {
     LIST: "# a comment\none gone: it is there no more\none Two::has_both: it cannot be turned\none deep::has_a_reason: a constant\none twice\n",
 }
 SAID = [
-    f"{LIST}:3: it does not stand behind the line before it in the order of letters",
-    f"{LIST}:5: it is no line 'CRATE FUNCTION: REASON'",
+    f"{LIST}:3: it is not in alphabetical order",
+    f"{LIST}:5: expected CRATE FUNCTION: REASON",
     f"{LIST}:3: one Two::has_both has a wrong body: turns_both",
     f"one no_body has no wrong body, and no line in {LIST}",
     f"{LIST}:2: no public function is one gone",

@@ -62,9 +62,9 @@ def main():
         return 0
     twice, known = {name for name, where in files.items() if len(where) > 1}, listed()
     for name in sorted(twice - known):
-        print(f"words: {name} stands in {' and '.join(sorted(files[name]))}: two senses want two names")
+        print(f"words: {name} is in {' and '.join(sorted(files[name]))}: two meanings need two names")
     for name in sorted(known - twice):
-        print(f"words: {name} stands in one file at most, and tools/words.txt lists it as one with two senses")
+        print(f"words: {name} is in one file at most, but tools/words.txt lists it with two meanings")
     print(f"words: {len(files):,} names of definitions, {len(twice)} of them in two files or more, {len(known)} listed")
     return 0 if files and twice == known else 1
 

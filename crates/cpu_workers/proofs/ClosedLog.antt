@@ -1,5 +1,5 @@
--- What one legal words log of the tower's locks says: its effects may come one after the other, and what its sections leave is the
--- step table's, and in the buffers what its effects leave.
+-- What one legal words log of the tower's locks implies: its effects may follow each other, and
+-- what its sections leave is the step table's, and in the buffers what its effects leave.
 use Rattle.std.proofs.Common.{◌≡◌, ℕ, suc, ◌<◌, ◌≤◌, List, [], ◌∷◌, length, map, slice_get, slice_index, Option, Some, None, option_map, inl, refl, ap, sym}
 use Rattle.std.proofs.Common.{◌∙◌, subst, arith}
 use Rattle.event_log.specs.{declared.ids.{BufId.BufId, CpuId.CpuId, LockId.{LockId, TheVariants.{Pending, Buffer as AtBuffer}}}, Actions.{Action, AreLegal}}
@@ -70,7 +70,8 @@ module _ (setup : Setup) (table_view : TableView (QueueBlock LockBlock)) (so : S
   abbrev acts : List (Action TowerName)
   acts = acts_in log
 
-  -- the actions beneath, under the names of the locks' words and under those of sleep and wakeup
+  -- the actions of the layers below, under the names of the locks' words and under those of sleep
+  -- and wakeup
   abbrev acts_words : List (Action (QueueEdit LockEdit))
   acts_words = acts_of edit_of log
 
@@ -108,7 +109,7 @@ module _ (setup : Setup) (table_view : TableView (QueueBlock LockBlock)) (so : S
   pub opening_starts : StartsWell above
   opening_starts = starts_viewed nested_lock_of (viewed state_of opening) (starts_viewed state_of opening so.starts)
 
-  -- Each effect may come after those before it.
+  -- Each effect may follow those before it.
   pub effects_may : IsLawful (MayTakeEffect setup.caps) (effects_of setup.caps acts)
   effects_may = subst (λ x. x)
       (λ i. IsLawful (MayTakeEffect setup.caps) (effects_in (so.locks i) (buffer_sections (events_are i))))

@@ -22,23 +22,23 @@ pub number_is : (opening : LockId → Option ℕ) (lock : LockId) (past : List (
 number_is opening lock [] zeroth = zeroth
 number_is opening lock (s ∷ past) zeroth = grind (arith, number_is opening lock past zeroth)
 
--- a poll of this section, behind others' sections, adds it where it answers and only then
+-- a poll of this section, after others' sections, adds it if and only if the poll returns
 module _ {E : Type 0} (s : Section E) (others old new : List (Section E)) (answered : Bool)
     (is : new ≡ (if answered then s ∷ (others ++ old) else others ++ old)) (theirs : AreOthers cpu_of_section s.cpu others) where
-  -- a poll that does not answer adds no section of its CPU
+  -- a poll that does not return adds no section of its CPU
   pub poll_waits : answered ≡ false → made s.cpu s.lock new ≡ made s.cpu s.lock old
   poll_waits waits = grind (arith, own_others cpu_of_section s.cpu others old theirs)
 
-  -- a poll that answers adds its section
+  -- a poll that returns adds its section
   pub poll_answers : answered ≡ true → made s.cpu s.lock new ≡ made s.cpu s.lock old + 1
   poll_answers answers = grind (arith, own_others cpu_of_section s.cpu others old theirs, same_cpu_self s.cpu, same_lock_self s.lock)
 
--- after a poll that does not answer, the section that was polled is under way
+-- after a poll that does not return, the section that was polled is under way
 pub goes_on : {S : Type 0} (under_way : Option S) (answered : Bool) (s t : S) → under_way ≡ (if answered then None else Some s)
     → answered ≡ false → s ≡ t → MayGoOn under_way t
 goes_on under_way answered s t is waits same = grind arith
 
--- a key that has come back from a seat at its table
+-- a key that was returned from a seat at its table
 pub has_made : {E B : Type 0} (lock : LockId) (old new : SeatView E B) (cpu : CpuId) (times : ℕ) → cpu ≡ old.cpu → cpu ≡ new.cpu
     → site_of new.table ≡ site_of old.table → lock_phase cpu new.seen ≡ Idle
     → made cpu lock (sections new.seen) ≡ made cpu lock (sections old.seen) + times → HasMade lock old new times
@@ -55,7 +55,7 @@ total_each : (f : ℕ → ℕ) (n k : ℕ) → ((c : ℕ) → c < n → f c ≡ 
 total_each f zero k same = omega arith
 total_each f (suc n) k same = omega (arith, total_each f n k (λ c under. same c (omega arith)), same n (omega arith))
 
--- where one CPU's number goes up, so does the sum
+-- if one CPU's number rises, so does the sum
 total_more : (f g : ℕ → ℕ) (n d b : ℕ) → d < n → g d ≡ f d + b → ((k : ℕ) → k ≢ d → g k ≡ f k) → total g n ≡ total f n + b
 total_more f g zero d b within here other = absurd (omega arith)
 total_more f g (suc n) d b within here other = elim (cases_eq n d) [
@@ -74,12 +74,12 @@ sections_add_up lock n (s ∷ past) known =
     (λ k other. let apart = ne_eqb s.cpu.0 k (λ e. other (sym e)) in rw apart refl) in
     grind (arith, sections_add_up lock n past known.1, sum)
 
--- a CPU's sections are those of its own events
+-- a CPU's sections are those of its events
 own_sections : {E : Type 0} (c : CpuId) (log : List (Event (Mark E))) → own_events cpu_of_section c (sections log) ≡ sections (own_events cpu_of_event c log)
 own_sections c [] = refl
 own_sections c (e ∷ log) = grind (arith, own_sections c log)
 
--- the keys that came back are those of all CPUs, and over
+-- the keys that were returned are those of all CPUs, and over
 pub made_back : {B E : Type 0} (lock : LockId) (times : ℕ) {table_view : TableView B} {came : List (SeatView E B)}
     → AllHaveMade lock (new_seat_views table_view table_view.cpus) came times → Back table_view table_view.cpus came
 made_back {E = E} lock times {table_view} {came} all = record {

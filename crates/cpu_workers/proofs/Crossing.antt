@@ -57,7 +57,8 @@ pub tower_sleeper_send : (S : RattleType) → IsSend S
 tower_sleeper_send S s = sleeper_send (lock_edit_of buffer_edit_row) S (lock_block_row buffer_block_row)
     (lock_out_of buffer_out_row) (lock_edit_of bare_edit_row) (lock_out_of bare_out_row) s (lock_out_send _ (cv_out_send _ bare_out_send))
 
--- a thread's call is meant, and has no bytes: so its state goes from thread to thread, and so does the table of them
+-- a thread's call is meant, and has no bytes: therefore its state may be sent from thread to
+-- thread, and so may the table of them
 call_state_send : IsSend call_state_row
 call_state_send = declared_send call_state_type (
   stage_send,
@@ -67,7 +68,8 @@ call_state_send = declared_send call_state_type (
 call_states_send : IsSend call_states_row
 call_states_send = declared_send call_states_type (array_send call_state_row THREADS call_state_send, tt)
 
--- and so does a part of the buffers, over conditions that do: whose call is under way is meant, and has no bytes
+-- and so may a part of the buffers, over conditions that may: whose call is under way is meant, and
+-- has no bytes
 pub fifo_send : (C : RattleType) → IsSend C → IsSend (fifo_row C)
 fifo_send C s = declared_send (fifo_type C)
     (search (sendable, crosses), (call_states_send, (search (sendable, crosses, ghost_send) depth 9, (payload_send, tt))))
@@ -113,7 +115,7 @@ brought = bare_answer_row (outcome_row (lock_out_of bare_out_row))
 abbrev guarded : RattleType
 guarded = block_row (sleep_block_row (lock_block_row buffer_block_row))
 
--- a seat goes from thread to thread, whatever its words are
+-- a seat may be sent from thread to thread, whatever its words are
 pub tower_seat_send : (a : NamedLft) (K : RattleType) (k : _) → IsSend (seat_row a K k)
 tower_seat_send a K k = view_send _ _ _ _ _ (declared_send (inside_type a K k) (
   seat_part a edit K _ answer handed brought (record {

@@ -1,10 +1,12 @@
--- Loops that go over a list and put one thing for each of its elements into another, which has room for all.
+-- Loops over a list that put one thing for each of its elements into another list, which has room
+-- for all.
 use Rattle.std.proofs.Common.{◌≡◌, ℕ, zero, suc, ◌+◌, ◌<◌, ◌≤◌, List, [], ◌∷◌, ◌++◌, length, map, drop, Some, ap, sym, ◌∙◌, subst, length-append, arith}
 use Rattle.std.{proofs.lemmas.List.length-drop, specs.Prelude.{slice_get, slice_index_or}}
 use Rattle.{cpu.proofs.WholeSystems.InvariantAtBoot.{at_end, drop_more}, cpu_workers.{specs.Reports.Both, proofs.Joining.{both_length, both_more, no_more}}}
 use Rattle.cpu_workers.proofs.Joining.{room_for, yield_more}
 
--- How far such a loop has come: these elements are done, and for each the other list has what belongs to it.
+-- The invariant of such a loop: these elements are done, and for each the other list has what
+-- belongs to it.
 pub record Filling {A B : Type 0} (Fits : A → B → Type 0) (all past rest : List A) (done : List B) (capacity : ℕ) : Type 0 where
   pub whole : past ++ rest ≡ all
   pub each : Both Fits past done
@@ -48,7 +50,7 @@ pub both_same : {A : Type 0} (xs ys : List A) → Both (λ x y. y ≡ x) xs ys �
 both_same [] ys same = grind arith
 both_same (x ∷ xs) ys same = grind (arith, both_same xs)
 
--- so is the list of a loop that has come to its end
+-- so is the list of a loop that has reached its end
 pub filled_with : {A B : Type 0} (h : A → B) {all past rest : List A} {done : List B} {capacity n : ℕ}
     → Filling (λ x y. y ≡ h x) all past rest done capacity → n ≡ length rest → n ≡ 0 → done ≡ map h all
 filled_with h {all = all} {done = done} filling count none = both_are h all done (filled_all filling count none)

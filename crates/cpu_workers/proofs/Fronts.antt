@@ -17,7 +17,7 @@ use Rattle.cpu_workers.{specs.{Fronts.IsFront, Orders.{IsTraceOf, effects_of}}, 
 use Rattle.{cpu_workers.proofs.{TableTraces.{front_of, grown, total}, ThreadsFollow.threads_follow}, fifo_buffer.specs.Laws.Tallies.effect_position}
 use Rattle.layer_traits.specs.declared.queue_edits.QueueBlock.TheVariants as block
 
--- An effect comes just where the table's block lets it.
+-- An effect occurs exactly if the table's block allows it.
 
 by_turn : (lets : Bool) (e : Entry) → length (option_to_list (if lets then Some e else None)) ≡ (if lets then 1 else 0)
 by_turn lets e = grind arith
@@ -33,7 +33,8 @@ module _ (setup : Setup) (opening : LockId → Option TowerBlock) (starts : Star
   abbrev sections_before : List (Action TowerName) → List BufferSection
   sections_before past = buffer_sections (map event_of (sections_in past))
 
-  -- the effect of a section comes where the table's block lets it, since that is the view of the layers' block
+  -- the effect of a section occurs if the table's block allows it, since that is the view of the
+  -- layers' block
   give_grown : (cpu : CpuId) (lock : LockId) (call : CvCall BufferEdit) (past : List (Action TowerName))
       → AreProper (sections_in (Give cpu lock (Above call) ∷ past))
       → length (option_to_list (effect_of (opening_locks setup.caps) (sections_before past) (section cpu (AtBuffer (buffer_guarded lock)) call)))
@@ -89,7 +90,7 @@ same_front (x ∷ xs) (y ∷ ys) us vs is long =
     let rest = same_front xs ys us vs (cc is) (omega (arith, long)) in
     λ i. first i ∷ rest i
 
--- effects that come later stand in front
+-- later effects are at the head of the list
 effects_since_front : (caps : List ℕ) (later earlier : List (Action TowerName))
     → (more : List Entry) × (effects_of caps (later ++ earlier) ≡ more ++ effects_of caps earlier)
 effects_since_front caps [] earlier = ([], refl)
@@ -100,7 +101,8 @@ effects_since_front caps (a ∷ later) earlier =
       one.is ∙ ap (λ l. option_to_list one.effect ++ l) before.1 ∙ sym (append_assoc (option_to_list one.effect) before.0 (effects_of caps earlier)),
     )
 
--- a trace that goes on to the effects of the whole list, and has as many entries as the CPU has effects at the front, has just these
+-- a trace that extends to the effects of the whole list, and has as many entries as the CPU has
+-- effects at the prefix, has exactly these
 trace_at_front : (caps : List ℕ) (c : CpuId) (later earlier : List (Action TowerName)) (trace more : List Entry)
     → trace ++ more ≡ reverse (of_cpu c (effects_of caps (later ++ earlier))) → length trace ≡ length (of_cpu c (effects_of caps earlier))
     → IsTraceOf c caps earlier trace
@@ -114,7 +116,8 @@ rest_none : {X : Type 0} (xs ys : List X) → xs ++ ys ≡ [] → ys ≡ []
 rest_none [] ys none = none
 rest_none (x ∷ xs) ys none = absurd (cc none)
 
--- CPUs that each worked along one list, whose traces are their effects in it, are linearizable by its steps
+-- CPUs that each worked along one list, whose traces are their effects in it, are linearizable in
+-- the order of its steps
 module _ (setup : Setup) (acts : List (Action TowerName)) (worked : IsWorked setup (named acts))
     (ends : (c : CpuId) (below : c.0 < setup.cpus) → IsTraceOf c setup.caps acts (worked.ran c below).last.trace)
     (many : (c : CpuId) (later earlier : List (Action TowerName)) → acts ≡ later ++ earlier

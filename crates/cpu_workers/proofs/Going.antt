@@ -1,4 +1,4 @@
--- How a call of native code goes on, poll by poll.
+-- The progress of a call of native code, poll by poll.
 use Rattle.std.proofs.Common.{arith, ◌≡◌, List, [], ◌∷◌, ◌++◌, Option, Some, None, option_map, option_to_list, is_some, true, false, refl, ◌≢◌, if◌then◌else◌}
 use Rattle.std.proofs.Common.{ap, sym, ◌∙◌, subst, append_assoc}
 use Rattle.event_log.{specs.declared.{entries.Entry.Entry, ids.{CpuId.CpuId, Tid.Tid}}, proofs.Same.same_cpu_self}
@@ -8,7 +8,7 @@ use Rattle.layer_traits.specs.{Layers.BufferLaw.{call_state_of, entry_of, Callin
 use Rattle.{layer_traits.specs.Threads.Passes.pass_after, cpu.{specs.{Cpus.of_cpu, Guests.entries_of}, proofs.ListFacts.GuestLists.cpu_same}}
 use Rattle.cpu_workers.specs.Calls.{EndsCall, IsOn, IsOne, KeepsOn, Returned, Went}
 
--- what a poll leaves of a call, before its answer is read
+-- what a poll leaves of a call, before its result is read
 pub record Half (cpu : CpuId) (t : Tid) (call : Call) (effect : Option Effect) (old new : List Entry) : Type 0 where
   pub one : IsOne call effect
   pub went : Went cpu old new (entries_of cpu t (buffer_of call) effect)
@@ -37,7 +37,7 @@ module _ (ActsFor : CpuId → Type 0) (cpu : CpuId) (acts : ActsFor cpu) where
   went_on old now new mine seen went = went_more cpu old now new mine seen.others (cpu_same ActsFor cpu seen.others now seen.foreign acts) seen.is went
 
   module _ (t : Tid) (call : Call) where
-    -- however far the call had come, it has come as far after entries of others
+    -- whatever the call's progress, the call has the same progress after entries of others
     pub keeps_on : {call_states left : List CallState} {now new : List Entry} → OthersSeen ActsFor now new → left ≡ call_states
         → KeepsOn cpu t call call_states left now new
     keeps_on {call_states} {left} {now} {new} seen same =
@@ -67,12 +67,12 @@ module _ (ActsFor : CpuId → Type 0) (cpu : CpuId) (acts : ActsFor cpu) where
                   (went_one cpu t call f old (called.others ++ now) (went_more cpu old now (called.others ++ now) [] called.others own refl before));
             })
 
--- a call that goes on is the one that its thread has begun
+-- a call that continues is the one that its thread has begun
 going_kept : (stage : Stage) (s : CallState) (call : Call) → begun_at stage s.call ≡ Some call → (going_at stage s call ≡ s) × (s.call ≡ Some call)
 going_kept stage s call is = grind arith
 
 module _ (cpu : CpuId) (t : Tid) (call : Call) where
-  -- a poll without an answer
+  -- a poll without a result
   pub still_on : (s : CallState) (old new : List Entry) → Answered call s None → Half cpu t call s.effect old new → IsOn cpu t call s old new
   still_on s old new answered half =
       let kept = going_kept s.stage s call answered in record {
@@ -93,7 +93,7 @@ module _ (cpu : CpuId) (t : Tid) (call : Call) where
         went = subst (λ f. Went cpu old new (entries_of cpu t (buffer_of call) f)) is half.went;
       }
 
-  -- nothing has come of a call that is about to begin
+  -- a call that is about to begin has taken no effect
   pub not_begun : (s : CallState) (old : List Entry) → s.stage ≡ Idle → IsOn cpu t call s old old
   not_begun s old idle =
       let is : begun call ≡ going s call = sym (ap (λ stage. going_at stage s call) idle) in record {
@@ -119,7 +119,7 @@ module _ (ActsFor : CpuId → Type 0) (cpu : CpuId) (acts : ActsFor cpu) {t : Ti
   pub ended_idles : {reply : Reply} → answer ≡ Some reply → Called ActsFor cpu t call call_states left now new answer → (call_state_of left t).stage ≡ Idle
   ended_idles some called = (subst (λ a. Answered call (call_state_of left t) a) some called.answers).0
 
--- who runs after a poll is the thread of the call
+-- the thread that runs after a poll is the thread of the call
 pub runs_on : {A : Type 0} (t : Tid) (own left : Threads) (answer : Option A) → RunsOn t own left answer → is_some left.current ≡ true → left.current ≡ Some t
 runs_on t own left answer runs some = grind (arith, runs.current)
 
@@ -139,7 +139,7 @@ pub ended_on : {A : Type 0} (pass : Pass) (queue : List Tid) (own left : Threads
     → left ≡ (if is_some answer then pass_after pass queue own else own) → left.ended ≡ own.ended
 ended_on pass queue own left answer not is = grind arith
 
--- the thread whose call answers runs on
+-- the thread whose call returns continues to run
 pub answers_run : (t : Tid) (own left : Threads) (answer : Option Reply) (reply : Reply) → answer ≡ Some reply → RunsOn t own left answer
     → left.current ≡ Some t
 answers_run t own left answer reply is ran = grind (arith, ran.current)

@@ -14,7 +14,8 @@ module _ {A B : Type 0} (Fits : A → B → Type 0) where
   both_length [] ys all = grind arith
   both_length (w ∷ xs) ys all = grind (arith, both_length xs)
 
--- How far a loop has come that makes one of each task of a list: these are made, and the others may be still.
+-- The invariant of a loop that makes one of each task of a list: these are made, and the others may
+-- be made yet.
 pub record Made {S T : Type 0} (task : S → T) (May : T → Type 0) (all past rest : List T) (ones : List S) (capacity : ℕ) : Type 0 where
   pub whole : past ++ rest ≡ all
   pub may : All May rest
@@ -82,6 +83,6 @@ pub both_all : {A B : Type 0} (Fits : A → B → Type 0) (P : A → Type 0) (Q 
 both_all Fits P Q over xs ys fits all =
     all_by_number Q ys (λ k y at. let of = both_back Fits xs ys fits k y at in over of.0 y of.2 (all_at P xs k of.0 all of.1))
 
--- what holds of all of a list, and of one more behind them, holds of them all
+-- what holds of all of a list, and of one more after them, holds of them all
 pub all_more : {A : Type 0} (P : A → Type 0) (xs ys : List A) (x : A) → ys ≡ xs ++ x ∷ [] → All P xs → P x → All P ys
 all_more P xs ys x is all one = rw is (All-append P xs (x ∷ []) all (All-cons P x [] one (All-nil P)))

@@ -14,7 +14,7 @@ carries : (k : Kind) (closed : Bool) (capacity : ℕ) (items : List Message) (va
     → CarriesNone k value
 carries k closed capacity items value allowed = grind arith
 
--- a CPU's newest effect is one that may come
+-- a CPU's newest effect is one that may occur
 pub newest_carries : (caps : List ℕ) (cpu : CpuId) (seen : List Entry) (e : Entry) (rest : List Entry) → IsLawful (MayTakeEffect caps) seen
     → of_cpu cpu seen ≡ e ∷ rest → CarriesNone e.kind e.value
 newest_carries caps cpu [] e rest lawful is = absurd (cc is)

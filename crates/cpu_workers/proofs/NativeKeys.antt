@@ -32,7 +32,7 @@ module _ {N X : Type 0} (Kept : N → N → CallerView → Type 0) (caps : List 
             );
       }
 
--- So their keys are those of all CPUs, and over.
+-- Therefore their keys are those of all CPUs, and over.
 pub natives_back : {N : Type 0} {Kept : N → N → CallerView → Type 0} {caps : List ℕ} {table_view : TableView AnyBlock} {natives after : List N}
     {keys : List Key} → HaveLeftKeys Kept caps table_view natives after keys → Back table_view (length natives) keys
 natives_back {natives = natives} have = record {

@@ -1,4 +1,4 @@
--- Natives that came back from one table have run.
+-- Natives whose threads at one table were joined have run.
 use Rattle.std.proofs.Common.{◌≡◌, ℕ, zero, suc, ◌*◌, ◌^◌, ◌<◌, ◌≤◌, List, [], ◌∷◌, length, map, Some, slice_get, refl, ap, ◌∙◌, subst, arith}
 use Rattle.std.proofs.lemmas.{List.length-map, Nat.mul-le}
 use Rattle.cpu_workers.specs.{Natives.{HasRunNative, HaveLeftKeys, HaveRun, OpensWith, left_among, own_homes}, declared.workers.callers.TheConstants.MOST_CALLS}

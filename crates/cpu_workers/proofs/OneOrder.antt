@@ -1,4 +1,5 @@
--- The traces of all CPUs are an order of the effects of one list of actions, if each CPU has seen a front of it that has all of its own.
+-- The traces of all CPUs are an order of the effects of one list of actions, if each CPU has seen a
+-- prefix of it with all of the CPU's actions.
 use Rattle.std.proofs.Common.{◌≡◌, ℕ, suc, ◌*◌, ◌<◌, ◌≤◌, ◌==◌, ◌^◌, false, List, [], ◌∷◌, ◌++◌, length, map, All, reverse, Option, Some, None, option_to_list}
 use Rattle.std.proofs.{Common.{append_assoc, slice_index_or, refl, ap, sym, ◌∙◌, subst, arith}, lemmas.{Bool.cases_lt, List.{append-nil, length-reverse}}}
 use Rattle.std.proofs.lemmas.{List.{reverse-append, Sums.{sum_by-cons, sum_by-le, sum_by-set}}, Option.{get_or_from_slice_get, slice_get_within}}
@@ -13,7 +14,7 @@ use Rattle.{fifo_buffer.specs.Laws.Tallies.effect_position, cpu.specs.{Cpus.of_c
 use Rattle.cpu.proofs.{WholeSystems.{Moments.order_stays, OneOrder.{filter_reversed, order_interleaves}}, ListFacts.ListReads.all_reversed}
 use Rattle.cpu_workers.specs.{Laws.OrderGoesOn, Orders.{IsTraceOf, effects_of}}
 
--- An action adds at most one effect, of its own CPU.
+-- An action adds at most one effect, of its CPU.
 
 pub record Adds (caps : List ℕ) (a : Action TowerName) (past : List (Action TowerName)) : Type 0 where
   pub effect : Option Entry
@@ -39,7 +40,7 @@ module _ (caps : List ℕ) where
             (buffer_lock_at (opening_locks caps) before (Buffer b)) e at).0;
       }
 
-  -- so the order of the effects goes on
+  -- therefore the order of the effects extends
   pub order_goes_on : (a : Action TowerName) (past : List (Action TowerName))
       → OrderGrows (cpu_of_action a) (reverse (effects_of caps past)) (reverse (effects_of caps (a ∷ past)))
   order_goes_on a past = let one = act_adds a past in go one.effect one.is one.its
@@ -93,7 +94,8 @@ module _ (caps : List ℕ) where
       behind None es = sym (append-nil (reverse es))
       behind (Some e) es = reverse-append (e ∷ []) es
 
-  -- where a CPU has seen a front of the list, and all of its own actions, its trace is its effects in the whole list
+  -- if a CPU has seen a prefix of the list, and all of its actions, its trace is its effects in the
+  -- whole list
   pub trace_in : (c : CpuId) (more past log : List (Action TowerName)) (trace : List Entry) → log ≡ more ++ past → AreOthers cpu_of_action c more
       → IsTraceOf c caps past trace → IsTraceOf c caps log trace
   trace_in c more past log trace is others of =

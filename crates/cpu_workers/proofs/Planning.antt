@@ -37,7 +37,7 @@ own_reason own guests trace limit is =
     go false true same = absurd (cc same)
     go false false same = absurd (cc same)
 
--- a step behind actions that are foreign to its holder is one behind other CPUs' actions
+-- a step after actions that are foreign to its holder is one after other CPUs' actions
 pub step_behind : {P N : Type 0} (ActsFor : CpuId → Type 0) (cpu : CpuId) (table : P → List (Action N) → Outcome P N) (p q : P) (old new : List (Action N))
     (answer : Step) → ActsFor cpu → IsStep ActsFor table p q old new answer → IsStep (λ c. c ≡ cpu) table p q old new answer
 step_behind ActsFor cpu table p q old new answer acts went = record {

@@ -1,4 +1,5 @@
--- What has returned comes before what has not begun: the order at a front is the beginning of the whole order.
+-- What has returned is before what has not begun: the order at a prefix is a prefix of the whole
+-- order.
 use Rattle.std.proofs.Common.{◌≡◌, ℕ, zero, suc, ◌+◌, ◌-◌, ◌<◌, ◌≤◌, ◌==◌, Bool, true, false, List, [], ◌∷◌, ◌++◌, length, take, reverse, Option, Some, None}
 use Rattle.std.proofs.{Common.{if◌then◌else◌, refl, ap, sym, ◌∙◌, subst, arith}, lemmas.Bool.{cases_lt, eq-eqb}}
 use Rattle.std.proofs.Common.{inl, inr}
@@ -41,14 +42,14 @@ calls_hit c t e es here its =
     ∙ ap (λ (b : Bool). (if b then (if e.thread.0 == t.0 then 1 else 0) else 0) + length (thread_entries c t es)) here
     ∙ ap (λ (b : Bool). (if b then 1 else 0) + length (thread_entries c t es)) its
 
--- a beginning that holds a list has at least its calls
+-- a prefix that contains a list has at least its calls
 calls_kept : (c : CpuId) (t : Tid) (pre more : List Entry) (p : ℕ) → length pre ≤ p → length (thread_entries c t pre) ≤ length (thread_entries c t (take p (pre ++ more)))
 calls_kept c t [] more p long = omega arith
 calls_kept c t (e ∷ pre) more zero long = absurd (omega arith)
 calls_kept c t (e ∷ pre) more (suc p) long =
     omega (arith, calls_more c t e pre, calls_more c t e (take p (pre ++ more)), calls_kept c t pre more p (omega arith))
 
--- a call that stands in a list is one more than those before it
+-- a call in a list is one more than those before it
 calls_within : (c : CpuId) (t : Tid) (pre more : List Entry) (q : ℕ) (e : Entry) → q < length pre → slice_get (pre ++ more) q ≡ Some e → e.cpu.0 ≡ c.0
     → e.thread.0 ≡ t.0 → length (thread_entries c t (take q (pre ++ more))) < length (thread_entries c t pre)
 calls_within c t [] more q e within at cpu thread = absurd (omega arith)
@@ -61,7 +62,7 @@ calls_within c t (x ∷ pre) more zero e within at cpu thread =
 calls_within c t (x ∷ pre) more (suc q) e within at cpu thread =
     omega (arith, calls_more c t x pre, calls_more c t x (take q (pre ++ more)), calls_within c t pre more q e (omega arith) at cpu thread)
 
--- what stands in the beginning comes before what does not
+-- what is in the prefix is before what is not
 first_before : (c d : CpuId) (t u : Tid) (pre more : List Entry) (i j p q : ℕ) → i < length (thread_entries c t pre) → length (thread_entries d u pre) ≤ j
     → StandsAt c t i (pre ++ more) p → StandsAt d u j (pre ++ more) q → p < q
 first_before c d t u pre more i j p q returned begun one other = omega (arith, early, late)

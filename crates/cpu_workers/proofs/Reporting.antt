@@ -1,4 +1,4 @@
--- From the workers that came back and the closed table to the lawful report.
+-- From the workers whose threads were joined and the closed table to the lawful report.
 use Rattle.std.{proofs.Common.{◌≡◌, ℕ, ◌+◌, ◌<◌, false, List, ◌++◌, length, refl, ap, sym, ◌∙◌, subst, arith}, specs.Prelude.Option}
 use Rattle.cpu_workers.proofs.{TableOrder.{goes_on, traces_ordered, other_cpus_rest, Goes}, Turning.{took_of, within_others}, ClosedLog.acts_legal}
 use Rattle.cpu_workers.proofs.{ClosedLog.{buffers_left, queues_left, buffer_opens, sections_proper, opening_starts}, Lasting.all_ended, OneOrder.HasOrder}
@@ -31,7 +31,7 @@ module _ {plan : BootPlan} {May : CpuId → Go → ℕ → Type 0} {turns : ℕ}
   went : WentBy setup (May c) turns (record left.first { cpu = c; private = boot_of setup c }) left.last line.taken line.stop
   went = rw (← left.at_boot.boots) (rw (← left.at_boot.cpu_is) (left.ran.went setup left.at_boot.planned))
 
-  -- where it stands, with what it was charged with by the plan
+  -- its state, with its charge by the plan
   abbrev charge : Charge
   charge = record { homes = setup.homes; caps = setup.caps; programs = left.first.plan.programs; limit = setup.trace_room }
 
@@ -136,7 +136,7 @@ module _ (setup : Setup) (May : CpuId → Go → ℕ → Type 0) (turns : ℕ) (
         (renamed_others c acts (other_cpus_rest setup table_view so keys blocks closes c beyond));
   }
 
-  -- What is told of a CPU.
+  -- What the report states of a CPU.
 
   told : (c : CpuId) (acts_seen : List (Action TowerName)) (line : CpuReport) → HasSeen setup (May c) turns c acts_seen line
       → ReportsTrue setup (May c) turns c line
@@ -214,7 +214,8 @@ module _ (setup : Setup) (May : CpuId → Go → ℕ → Type 0) (turns : ℕ) (
       effects_so setup above (opening_starts setup table_view so closes.log closes.legal) so.locks (buffer_opens setup table_view so closes.log closes.legal) c
       earlier (proper_before later earlier (subst (λ l. AreProper (sections_in l)) is (sections_proper setup table_view so closes.log closes.legal)))
 
-  -- and it is that of the closed table's words log, by whose actions the calls are linearizable
+  -- and it is that of the closed table's words log, in the order of whose actions the calls are
+  -- linearizable
   pub of_words : IsReportOfWords setup May turns closes.log r
   unfolding lawful report
   of_words = record { report = lawful; log_is = refl; order_is = in_order.is; linear = is_front setup acts worked ends many }

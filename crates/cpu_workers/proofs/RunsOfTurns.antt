@@ -1,4 +1,4 @@
--- A run of a worker's CPU is turns of the worker, one behind the other.
+-- A run of a worker's CPU is turns of the worker, one after the other.
 use Rattle.std.proofs.Common.{◌≡◌, ℕ, ◌<◌, Bool, true, Option, is_some, refl, ◌∙◌, subst, arith}
 use Rattle.layer_traits.specs.{Blocks.{Capacities.caps_in, QueueBlocks.homes_in}, declared.{call_layers.CallLayer.Ghosts, steps.Reason.Reason}}
 use Rattle.layer_traits.specs.{declared.steps.Step.TheVariants.Stepped, Polling.Plans.is_in_section, Views.OwnParts.threads_in}
@@ -7,7 +7,7 @@ use Rattle.cpu.specs.{declared.cpus.Cpu.Cpu, CpuSteps.{AgreesAt, RunsAt, stops_a
 use Rattle.cpu.specs.Tower.Composed.{busy_step_answer, named}
 use Rattle.{cpu.proofs.CpuSteps.CpuRuns.runs_agree, cpu_workers.{specs.Working.{MayStep, TookTurns, Working}, proofs.Planning.{step_behind, table_planned}}}
 
--- a CPU that stops takes no step by the table
+-- a CPU that stops takes no step of the table
 pub stops_still : (inside busy : Bool) (stops halted answer : Option Reason) → inside ≡ busy → halted ≡ stops → answer ≡ reason_in inside stops
     → is_some answer ≡ true → busy_step_answer busy halted ≡ Stepped → 0 < 0
 stops_still inside busy stops halted answer at own is some may = grind arith

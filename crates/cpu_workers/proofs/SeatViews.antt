@@ -1,4 +1,5 @@
--- The workers of a plan at one table of words: what each leaves there, and that the table may be closed.
+-- The workers of a plan at one table of words: what each leaves there, and that the table may be
+-- closed.
 use Rattle.std.proofs.Common.{arith, ◌≡◌, ℕ, ◌+◌, ◌<◌, ◌≤◌, true, false, List, [], length, map, drop, get_or, Option, Some, None, refl, ap, sym, ◌∙◌, subst}
 use Rattle.std.{proofs.lemmas.List.{length-map, drop_all}, specs.Prelude.{IfOk, Result, Ok, Err, slice_get}}
 use Rattle.cpu_workers.{proofs.TableKeys.{Back, one_site, as_many, seat_views_at}, specs.declared.workers.{seating.Left.Left, gates.Go.Go, stops.Stop.Stop}}
@@ -11,7 +12,8 @@ use Rattle.{sleep_wakeup.specs.Nested.slept_edit, spinlock.specs.Laws.LineLaws.r
 use Rattle.{table_machine.specs.SeatViews.{new_seat_view, new_seat_views, site_of}, cpu.specs.Tower.{Composed.named, Views.{TowerName, name_of}}}
 use Rattle.cpu.proofs.ListFacts.ListReads.{shows_at, there_is}
 
--- a new key is one for a CPU before its first action, however the machine tells its actions and that a CPU is outside
+-- a new key is one for a CPU before its first action, however the machine represents its actions
+-- and that a CPU is outside
 pub ready_at : (Opens : (LockId → Option AnyBlock) → Type 0) (table_view : TableView AnyBlock) (n : ℕ) (IsOutside : Key → Type 0)
     (acts : Key → List (Action Edit)) {seats : List Key} → seats ≡ new_seat_views table_view n → (k : ℕ) (key : Key) → slice_get seats k ≡ Some key
     → IsOutside (new_seat_view table_view k) → acts (new_seat_view table_view k) ≡ [] → Opens (opened table_view.start)
@@ -26,7 +28,7 @@ ready_at Opens table_view n IsOutside acts new k key at outside none opens =
 pub rests_so : (f : Phase) → is_in_section f ≡ false → f ≡ Rests
 rests_so f none = grind arith
 
--- a CPU whose sections are over, as the tower tells them, is outside all locks
+-- a CPU whose sections are over, according to the tower, is outside all locks
 pub outside_now : (c : CpuId) (key : Key) → is_in_section (phase c (tower_acts (acts_of edit_of key.seen))) ≡ false → lock_phase c key.seen ≡ Idle
 outside_now c key over =
     let acts = acts_of edit_of key.seen in
@@ -41,12 +43,14 @@ stopped {c = c} {acts = acts} left =
     ap is_in_section (sym (phase_renamed name_of c acts)) ∙ ap (λ (l : List (Action TowerName)). is_in_section (phase c (named l))) left.apart.acts_are
     ∙ ap (λ (d : CpuId). is_in_section (phase d (named left.last.acts))) (sym (left.ran.same.cpu ∙ left.at_boot.cpu_is)) ∙ left.ran.rests
 
--- what a seat has seen is lawful, and so its actions are those of the words log, whatever words it tells
+-- what a seat has seen is lawful, and therefore its actions are those of the words log, whatever
+-- words it represents
 abbrev pub SameActs : (Key → List (Action Edit)) → Type 0
 SameActs acts = (key : Key) → IsLawful (MayCome (tower_rules.allowed (opened key.start))) key.seen → acts key ≡ acts_of edit_of key.seen
 
 module _ {X : Type 0} (table_view : TableView AnyBlock) (left : List X) (machine : X → Key) (acts : Key → List (Action Edit)) (same : SameActs acts) where
-  -- what was left at this seat of a new table: its key is the CPU's, and it is over where the CPU's sections are
+  -- what was left at this seat of a new table: its key is the CPU's, and it is over if the CPU's
+  -- sections are
   pub left_at : (n : ℕ) (seats : List Key) → seats ≡ new_seat_views table_view n → length left ≡ length seats
       → ((k : ℕ) (x : X) (m : Key) → slice_get left k ≡ Some x → slice_get seats k ≡ Some m → site_of (machine x).table ≡ site_of m.table)
       → ((k : ℕ) (x : X) → slice_get left k ≡ Some x
@@ -108,7 +112,7 @@ module _ (plan : BootPlan) (May : CpuId → Go → ℕ → Type 0) (turns : ℕ)
             );
       }
 
--- So their keys are those of all CPUs, and over.
+-- Therefore their keys are those of all CPUs, and over.
 pub workers_back : {plan : BootPlan} {May : CpuId → Go → ℕ → Type 0} {turns : ℕ} {table_view : TableView AnyBlock} {keys : List Key}
     {traces : List (List Entry)}
     {taken : List ℕ} {stops : List Stop} → HaveLeft plan May turns table_view keys traces taken stops → Back table_view plan.cpus keys

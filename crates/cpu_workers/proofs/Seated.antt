@@ -1,4 +1,5 @@
--- A CPU that was made with its guests is one before its first step, over a machine in which nothing was done.
+-- A CPU that was made with its guests is one before its first step, over a machine in which nothing
+-- was done.
 use Rattle.std.{proofs.Common.{◌≡◌, ℕ, ◌≤◌, List, [], length, Option, None, ap, sym, ◌∙◌, subst}, specs.Prelude.{IfOk, Result, Ok, Err}}
 use Rattle.{boot.specs.Plan.{BootPlan, IsPlan, Task}, event_log.specs.declared.{entries.Entry.Entry, ids.{CpuId.CpuId, LockId.LockId, TheConstants.THREADS}}}
 use Rattle.{event_log.specs.Actions.Action, layer_traits.specs.Layers.{BufferLaw.{Buffering, UnderWay, buffering_at_start}, IpcLaw.OpensSo}}

@@ -24,7 +24,7 @@ seat_views_are_of table_view = all_new table_view (λ d. IsOf table_view d) (λ 
 pub new_fresh : {E B : Type 0} (table_view : TableView B) (n : ℕ) → All (IsFresh {E = E} table_view) (new_seat_views table_view n)
 new_fresh table_view = all_new table_view (λ d. IsFresh table_view d) (λ k. refl)
 
--- what belongs to each of them, in a list that has come of them
+-- what belongs to each of them, in a list that was made of them
 pub came_at : {E B : Type 0} (table_view : TableView B) (Fits : SeatView E B → SeatView E B → Type 0) (n : ℕ) (came : List (SeatView E B))
     → Both Fits (new_seat_views table_view n) came → (k : ℕ) → k < n → (e : SeatView E B) × (slice_get came k ≡ Some e) × Fits (new_seat_view table_view k) e
 came_at {E = E} table_view Fits n came all k below =
@@ -33,7 +33,8 @@ came_at {E = E} table_view Fits n came all k below =
     let of = both_back Fits (new_seat_views table_view n) came all k there.0 there.1 in
     (there.0, there.1, subst (λ (d : SeatView E _). Fits d there.0) (seat_views_at table_view n k of.0 of.1) of.2)
 
--- The keys that came back from such a table are those of all CPUs, and over: so the table may be closed with them.
+-- The keys that were returned from such a table are those of all CPUs, and over: therefore the
+-- table may be closed with them.
 pub record Back {E B : Type 0} (table_view : TableView B) (n : ℕ) (keys : List (SeatView E B)) : Type 0 where
   pub count : length keys ≡ n
   pub each : (k : ℕ) → k < n → (key : SeatView E B) × (slice_get keys k ≡ Some key) × (key.cpu ≡ cpu_at k) × IsOver table_view key
@@ -56,7 +57,7 @@ module _ {E B : Type 0} (table_view : TableView B) (n : ℕ) {seats : List (Seat
   pub left_fit : {left count : ℕ} → left ≡ length seats → count ≡ n → (most : ℕ) → count ≤ most → left ≤ most
   left_fit same counted most room = let many = as_many in omega (arith, same, counted, room, many)
 
--- a table's names tell which it is
+-- a table's names determine the table
 pub one_site : (t u : TableId) → site_of t ≡ site_of u → t ≡ u
 one_site t u same =
     let words : t.words ≡ u.words = cc same in

@@ -1,4 +1,4 @@
--- From those who came back to a closed table to the one order of their calls.
+-- From the keys returned to a closed table to the one order of their CPUs' calls.
 use Rattle.std.proofs.Common.{◌≡◌, ℕ, ◌+◌, ◌*◌, ◌^◌, ◌<◌, ◌≤◌, List, [], length, Some, slice_get, slice_index_or, ap, sym, ◌∙◌, subst, arith, ◌∷◌}
 use Rattle.std.proofs.{Common.{◌++◌, map}, lemmas.{Option.get_or_from_slice_get, List.{append_cancel_right, length-map, length-set, same_lists}}}
 use Rattle.std.proofs.{Common.get_or, lemmas.Option.{slice_get-get_or}}
@@ -31,7 +31,7 @@ acts_others c more others =
     others_renamed (renamed_edit lock.lock_call) c (map (renamed (renamed_edit sleep.slept_edit)) (acts_of edit_of more))
     (others_renamed (renamed_edit sleep.slept_edit) c (acts_of edit_of more) (others_acts edit_of c more others))
 
--- a list that went on from another and has no more of this CPU's events
+-- a list that extends another and has no more of this CPU's events
 no_more_own : {E : Type 0} (by : E → CpuId) (c : CpuId) (log more past : List E) → log ≡ more ++ past → own_events by c log ≡ own_events by c past
     → AreOthers by c more
 no_more_own by c log more past is same =
@@ -62,7 +62,7 @@ pub record HasCome (setup : Setup) (keys : List Key) (traces : List (List Entry)
   pub own : IsTraceOf c setup.caps (acts_in key.seen) trace
   pub room : length trace ≤ setup.trace_room
 
--- a list goes on from what a CPU has seen of it, which has all of its own
+-- a list extends what a CPU has seen of it, which has all of the CPU's actions
 pub record Goes (acts past : List (Action TowerName)) (c : CpuId) : Type 0 where
   pub more : List (Action TowerName)
   pub is : acts ≡ more ++ past
@@ -95,7 +95,8 @@ module _ (setup : Setup) (table_view : TableView (QueueBlock LockBlock)) (so : S
       (contents_wide setup.caps (effects_of setup.caps acts))
       (λ b within. messages_left setup table_view so closes.log closes.legal blocks closes.count closes.blocks_are (buffer_at b) within)
 
-  -- the traces have one order, that of the effects of the list, which is a run and ends in what is left
+  -- the traces have one order, that of the effects of the list, which is a legal history and ends
+  -- in what is left
   pub traces_ordered : (traces : List (List Entry)) → length traces ≡ setup.cpus → ((c : CpuId) → c.0 < setup.cpus → HasCome setup keys traces c)
       → HasOrder setup.caps traces (effects_of setup.caps acts) (left_among (length setup.caps) blocks)
   traces_ordered traces count each =

@@ -1,4 +1,5 @@
--- The step table's trace of a CPU only grows, and just where a section is a close or a try that is let go: by one entry.
+-- The step table's trace of a CPU only grows: by one entry exactly if a section is a close or a try
+-- that is released.
 use Rattle.std.proofs.Common.{◌≡◌, ◌⊎◌, inl, inr, ℕ, ◌+◌, Bool, true, false, List, [], ◌∷◌, ◌++◌, length, Option, Some, None, option_map, if◌then◌else◌, refl}
 use Rattle.std.proofs.{Common.{sym, ap, ◌∙◌, subst, arith, append_assoc}, lemmas.List.{append-nil, length-append}}
 use Rattle.event_log.specs.{declared.{entries.Entry.Entry, ids.{CpuId.CpuId, LockId.LockId, Tid.Tid}}, History.same_cpu, Messages.Message, Actions.Action}
@@ -20,7 +21,7 @@ grown (TryTake t) (Some (OfBuffer k)) = if may_try Receivers t k then 1 else 0
 grown (Shut t) (Some (OfBuffer k)) = 1
 grown name o = 0
 
--- a trace goes on from another by so many entries
+-- a trace extends another by so many entries
 pub record Grew (old new : List Entry) (count : ℕ) : Type 0 where
   pub more : List Entry
   pub is : new ≡ old ++ more
@@ -47,7 +48,7 @@ module _ (setup : Setup) (c : CpuId) where
   settled_trace : (p : Private) → (settled setup p).trace ≡ p.trace
   settled_trace p = grind arith
 
-  -- What a section of a call told.
+  -- What a section of a call returned.
 
   try_grew : (p : Private) (t : Tid) (call : Call) (side : Side) (x : Block)
       → Grew p.trace (recorded_try c p t call (answer (try_due t call side) x).told).trace (grown (try_due t call side) (Some x))
@@ -172,7 +173,8 @@ module _ (setup : Setup) (c : CpuId) where
   total_acts : (acts log : List (Action Name)) → IsShort acts → total (acts ++ log) ≡ made acts log + total log
   total_acts acts log short = grind arith
 
-  -- where a CPU stood at a front of the list to which it came: its trace has one entry for each effect, and goes on from there
+  -- the state of a CPU at the prefix of the list that it reached: its trace has one entry for each
+  -- effect, and extends from there
   pub record FrontOf (p : Private) (front : List (Action Name)) : Type 0 where
     pub count : ℕ
     pub last : Private

@@ -1,4 +1,4 @@
--- Along the step table each thread's entries are its program's calls up to where it has come.
+-- Along the step table each thread's entries are its program's calls up to its state.
 use Rattle.std.proofs.Common.{◌≡◌, ◌⊎◌, inl, inr, ℕ, ◌<◌, ◌≤◌, ◌==◌, Bool, true, false, List, [], ◌∷◌, ◌++◌, ◌+◌, length, reverse, Option, Some, None}
 use Rattle.std.proofs.{Common.{option_map, if◌then◌else◌, slice_index_or, refl, sym, ap, ◌∙◌, subst, arith}, lemmas.Bool.{cases_lt, eq-eqb}}
 use Rattle.std.proofs.lemmas.List.{Elements.filter-append, append-nil, get_or_past, reverse-append, set_past}
@@ -21,14 +21,15 @@ use Rattle.{cpu.proofs.Wakeups.{Agreement.{at_other, at_same}, ReachedStates.all
 
 -- What a call has to do with its program.
 
--- a call of this group on this buffer, with this message where it sends, is what the instruction asks for
+-- a call of this group on this buffer, with this message if it sends, is what the instruction asks
+-- for
 abbrev Asks : Instruction → State → Group → BufId → Message → Type 0
 Asks (Send b from k) s group buffer message = (group ≡ Sends) × (buffer ≡ b) × (message ≡ message_from s from)
 Asks (Recv b into k) s group buffer message = (group ≡ Receives) × (buffer ≡ b)
 Asks (Close b) s group buffer message = (group ≡ Closes) × (buffer ≡ b)
 Asks other s group buffer message = ⊥
 
--- a call that stands in a line: a close does not
+-- a call that waits in a queue: a close does not
 abbrev IsLined : Group → Type 0
 IsLined Closes = ⊥
 IsLined group = Unit {0}
@@ -49,7 +50,8 @@ IsAfter Releases = Unit {0}
 IsAfter Idle = Unit {0}
 IsAfter stage = ⊥
 
--- a call without an effect is what the instruction asks for at which its thread stands, to which the thread's entries lead
+-- a call that has not taken effect is what its thread's instruction asks for; the thread's entries
+-- lead to that instruction
 record Opened (program : List Instruction) (s : State) (es : List Entry) (call : Call) : Type 0 where
   stage : IsBefore call.stage call.asks
   closed : call.closed ≡ false
@@ -104,11 +106,11 @@ module _ (setup : Setup) where
   abbrev entries_in : Private → Tid → List Entry
   entries_in p t = reverse (of_thread t.0 p.trace)
 
-  -- each thread of a CPU stands where its entries lead
+  -- each thread of a CPU is in the state to which its entries lead
   abbrev Follow : Private → Type 0
   Follow p = (t : Tid) → Stood (program_of setup t) (thread_at p t).guest (entries_in p t) (thread_at p t).call
 
-  -- one thread has gone on
+  -- one thread has changed
   set_thread : (p : Private) (t : Tid) (x : Thread) → Follow p → Stood (program_of setup t) x.guest (entries_in p t) x.call → Follow (with_thread p t x)
   set_thread p t x follow now u = by_test (same_tid t u) refl
     where
@@ -124,7 +126,7 @@ module _ (setup : Setup) where
           (thread_at (with_thread p t x) v).call) (same_tid_true t u is) (here (cases_lt t.0 (length p.threads)))
       by_test false off = subst (λ (y : Thread). Stood (program_of setup u) y.guest (entries_in p u) y.call) (sym (at_other p t u x off)) (follow u)
 
-  -- one that is in no call has gone on by itself
+  -- one that is in no call has changed by itself
   set_guest : (p : Private) (t : Tid) (guest : State) → (thread_at p t).call ≡ None → Follow p
       → (IsProgramsCalls (program_of setup t) (entries_in p t) (thread_at p t).guest → IsProgramsCalls (program_of setup t) (entries_in p t) guest)
       → Follow (with_state p t guest)
@@ -132,7 +134,7 @@ module _ (setup : Setup) where
       set_thread p t _ follow (subst (λ o. Stood (program_of setup t) guest (entries_in p t) o) (sym outside)
       (more (subst (λ o. Stood (program_of setup t) (thread_at p t).guest (entries_in p t) o) outside (follow t))))
 
-  -- one thread has gone on by an effect
+  -- one thread has changed by an effect
   set_effect : (p : Private) (t : Tid) (x : Thread) (e : Entry) → t.0 < length p.threads → e.thread ≡ t → Follow p
       → Stood (program_of setup t) x.guest (e ∷ entries_in p t) x.call → Follow (record (with_thread p t x) { trace = p.trace ++ e ∷ [] })
   set_effect p t x e known its follow now u = by_test (same_tid t u) refl
@@ -160,7 +162,7 @@ module _ (setup : Setup) where
   put_message : (lets closed : Bool) (of op : ℕ) (put m : Message) → (if lets then report_of_put closed of put else NotYet) ≡ Done op m → m ≡ put
   put_message lets closed of op put m is = grind arith
 
-  -- what a send tells that it has put is its message
+  -- what a send has put, according to its result, is its message
   sent_message : (t : Tid) (call : Call) (side : Side) → side_of_group call.asks ≡ side → (x : Block) (op : ℕ) (m : Message)
       → (answer (try_due t call side) x).told ≡ Done op m → call.asks ≡ Sends → m ≡ call.message
   sent_message t call Senders is (OfBuffer k) op m told sent = put_message (may_try Senders t k) k.closed k.effects op call.message m told
@@ -200,7 +202,7 @@ module _ (setup : Setup) where
         by_effect None opened = absurd (late opened.stage)
         by_effect (Some op) done = done
 
-    -- the call goes on to another stage, and has drawn this position
+    -- the call continues to another stage, and has drawn this position
     goes : (position : ℕ) (stage : Stage) → (IsBefore call.stage call.asks → IsBefore stage call.asks) → (IsAfter call.stage → IsAfter stage)
         → Follow (with_thread p t (record (thread_at p t) { call = Some (record call { position = position; stage = stage }) }))
     goes position stage early late = set_thread p t _ follow (by_effect call.effect stood)
@@ -399,7 +401,7 @@ module _ (setup : Setup) where
   along_follows c n p log (others {n = m} {p = q} {log = past} a along off) = along_follows c m q past along
   along_follows c n p log (steps {n = m} {p = q} {log = past} along stepped) = step_follows c q past (along_follows c m q past along)
 
-  -- each thread's entries are its program's calls up to where it has come
+  -- each thread's entries are its program's calls up to its state
   pub threads_follow : (c : CpuId) (n : ℕ) (p : Private) (log : List (Action Name)) → AlongTable setup c n p log → (t : Tid)
       → IsProgramsCalls (program_of setup t) (reverse (of_thread t.0 p.trace)) (come_to setup p t (thread_at p t).call)
   threads_follow c n p log along t = by_call (thread_at p t).call (along_follows c n p log along t)

@@ -1,4 +1,5 @@
--- The tower over a lock opens as the lock does: its buffers, its homes and its queues are those that the locks hold.
+-- The tower over a lock opens as the lock does: its buffers, its homes and its queues are those
+-- that the locks hold.
 use Rattle.std.{proofs.Common.{◌≡◌, ◌≤◌, ℕ, List, length, ◌∙◌, arith}, specs.Prelude.{IsSome, Option}}
 use Rattle.layer_traits.specs.{Blocks.{Capacities.caps_in, BufferEffects.opening_locks, QueueBlocks.{homes_in, inner}}, Views.Renaming.viewed}
 use Rattle.{layer_traits.proofs.KernelRenaming.{homes_viewed, viewed_there}, event_log.specs.declared.ids.{CpuId.CpuId, LockId.{LockId, TheVariants.Pending}}}

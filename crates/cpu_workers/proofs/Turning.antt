@@ -27,7 +27,8 @@ below_shown : (turns shown : ℕ) → turns ≤ most → shown < turns → (coun
 below_shown turns shown small short count counts =
     let same : count ≡ shown = counts.exact (omega (arith, small, short)) in omega (arith, same, short)
 
--- a stop that is true where the gate has answered `Limit` is true by what it may answer
+-- a stop that is true according to what the gate has returned is true according to what it may
+-- return
 true_stop : (halted : Option Reason) {A B : ℕ → Type 0} (turns taken : ℕ) (stop : Stop) → ((turn : ℕ) → A turn → MayHold B taken)
     → IsTrueStop halted A turns taken stop → IsTrueStop halted B turns taken stop
 true_stop halted turns taken AllEnded may is = is
@@ -83,8 +84,9 @@ module _ {P N : Type 0} {table : P → List (Action N) → Outcome P N} {cpu : C
 
 -- A worker on its way.
 
--- by a table of its plan it took so many turns, between two sections only where it might; if the gate holds it, none after that but to end a
--- section; and the gate was asked at each turn, and let whoever it does not hold pass
+-- under a table of its plan it took so many turns, between two sections only if it might. If the
+-- gate holds it, it took none after that except to end a section. The gate was asked at each turn,
+-- and let a worker pass that it does not hold.
 pub record Goes (setup : Setup) (May : Go → ℕ → Type 0) (turns : ℕ) (start now : Working) (taken : ℕ) (held : Bool) : Type 0 where
   pub within : TookWithin (cpu_step setup start.cpu) start.cpu (MayTakeTurn turns (May Pass)) start.private now.private (log now) taken
   pub was_held : held ≡ true → WasHeld (cpu_step setup start.cpu) start.cpu (May Limit) start.private now.private (log now) taken
@@ -108,7 +110,7 @@ ran_none May turns w fresh = record {
   };
 }
 
--- whom the gate holds now: it did before, or it has answered `Limit`
+-- if the gate holds the worker, it did before, or it has returned `Limit`
 held_now : {setup : Setup} {May : Go → ℕ → Type 0} {turns : ℕ} {start now : Working} {taken : ℕ} {held : Bool} → Goes setup May turns start now taken held
     → (held ≡ true) ⊎ May Limit taken → WasHeld (cpu_step setup start.cpu) start.cpu (May Limit) start.private now.private (log now) taken
 held_now goes (inl was) = goes.was_held was
@@ -121,7 +123,7 @@ held_now {taken = taken} goes (inr may) = record {
   within = record { count = goes.within.count; steps = within_up goes.within.count (omega arith) goes.within.steps; counted = goes.within.counted };
 }
 
--- the gate was asked at the turn just taken too
+-- the gate was asked at the turn that was taken last too
 asked_on : (May : Go → ℕ → Type 0) (taken : ℕ) (held : Bool) → AskedAtEach May taken → (held ≡ false → May Pass taken)
     → (held ≡ true → MayHold (May Limit) taken) → AskedAtEach May (counted_on taken)
 asked_on May taken held asked free holds k before = elim (cases_lt k taken) [
@@ -232,7 +234,7 @@ module _ {May : CpuId → Go → ℕ → Type 0} {turns : ℕ} {start now : Work
 abbrev pub shown_after : ℕ → ℕ → ℕ
 shown_after taken k = min (taken + k) most
 
--- of more turns than one each is allowed: the gate does not hold the worker and lets it pass at each
+-- if more than one turn is allowed: the gate does not hold the worker and lets it pass at each
 pub record AllAllowed (May : ℕ → Type 0) (turns taken k : ℕ) (held : Bool) : Type 0 where
   pub free : held ≡ false
   pub below : taken + k ≤ turns
@@ -241,7 +243,8 @@ pub record AllAllowed (May : ℕ → Type 0) (turns taken k : ℕ) (held : Bool)
 module _ {May : CpuId → Go → ℕ → Type 0} {turns : ℕ} {start now : Working} {taken : ℕ} {held : Bool} (ran : Ran May turns start now taken held) (new : Bool)
     (limits : new ≡ true → (held ≡ true) ⊎ May now.cpu Limit taken) (kept : held ≡ true → new ≡ true) (small : turns ≤ most) (fits : taken ≤ most)
     (passes : new ≡ false → May now.cpu Pass taken) (may : (is_inside now ≡ true) ⊎ ((new ≡ false) × (taken < turns))) where
-  -- it may take the turn behind so many: the first as the gate was asked for it, each further one as it is allowed
+  -- it may take the turn after so many: the first as the gate was asked for it, each further one as
+  -- it is allowed
   next_turn : {k : ℕ} {w : Working} → TookTurns now k w → IsSame start w → (1 < k + 1 → AllAllowed (May now.cpu Pass) turns taken (k + 1) new)
       → (new ≡ false → May w.cpu Pass (shown_after taken k)) × ((is_inside w ≡ true) ⊎ ((new ≡ false) × (shown_after taken k < turns)))
   next_turn TookTurns.no_turns same all =

@@ -1,11 +1,12 @@
--- Callers: native threads that send to buffers and receive from them, each at a CPU of its own.
+-- Callers: native threads that send to buffers and receive from them, each on its own CPU.
 use Rattle.std.specs.Prelude.{◌≡◌, ℕ, ◌≤◌, List, ◌++◌, [], ◌∷◌, length}
 use Rattle.event_log.specs.declared.{entries.{Entry.Entry, Kind.{Kind, TheVariants.{Send, Recv, Close, SendClosed, RecvClosed}}}, ids.BufId.BufId}
 use Rattle.{event_log.specs.{declared.ids.{CpuId.CpuId, Tid.Tid}, Messages.{Message, no_message}}, layer_traits.specs.declared.calls.{Call.Call, Effect.Effect}}
 use Rattle.layer_traits.specs.{declared.calls.Reply.Reply, Blocks.BufferEffects.entry, Layers.BufferLaw.{IsEffectOf, buffer_of, entry_of, reply_of}}
 use Rattle.{cpu.specs.Cpus.of_cpu, cpu_workers.specs.declared.workers.callers.TheConstants.MOST_CALLS}
 
--- a caller to its users: its CPU and its thread, the capacities of the buffers, which machine it is, and the entries of its calls, oldest first
+-- a caller as its users see it: its CPU and thread, the buffers' capacities, which machine it is,
+-- and its calls' entries, oldest first
 pub record CallerView : Type 0 where
   pub cpu : CpuId
   pub thread : Tid
@@ -13,8 +14,9 @@ pub record CallerView : Type 0 where
   pub site : List ℕ
   pub calls : List Entry
 
--- what always holds of a caller: its part agrees with its machine, which has room at any time; nothing is under way and its thread is in no
--- call; each buffer opened empty; and it counts its calls, which are not too many
+-- The invariant of a caller. Its part agrees with its machine, which has room at any time. Nothing
+-- is under way, and its thread is in no call. Each buffer opened empty. It counts its calls, which
+-- are at most `MOST_CALLS`.
 pub record IsCaller (PartFits Roomy Nothing Rests Opens : Type 0) (cpu : CpuId) (seen : List Entry) (made : ℕ) : Type 0 where
   pub fits : PartFits
   pub room : Roomy
@@ -29,7 +31,7 @@ abbrev pub with_entry : CallerView → Entry → CallerView
 with_entry caller e =
     record { cpu = caller.cpu; thread = caller.thread; caps = caller.caps; site = caller.site; calls = caller.calls ++ e ∷ [] }
 
--- an effect without a message of its own carries none
+-- an effect without a message carries none
 abbrev pub CarriesNone : Kind → Message → Type 0
 CarriesNone Send value = Unit {0}
 CarriesNone Recv value = Unit {0}

@@ -1,4 +1,4 @@
--- Message calls of native code: what a CPU polls for one thread's call, and how far the call has come.
+-- Message calls of native code: what a CPU polls for one thread's call, and the call's progress.
 use Rattle.std.specs.Prelude.{◌≡◌, ◌≢◌, List, ◌++◌, [], ◌∷◌, Option, Some, None}
 use Rattle.{event_log.specs.declared.{entries.Entry.Entry, ids.{CpuId.CpuId, Tid.Tid}}, layer_traits.specs.declared.calls.{Call.Call, Effect.Effect}}
 use Rattle.layer_traits.specs.{declared.{calls.Reply.Reply, call_states.CallState.CallState, passes.Pass.TheVariants.End}, Threads.Passes.MayPass}
@@ -12,7 +12,8 @@ begun_under_way t None = None
 begun_under_way t (Some Calls) = Some (Calling t)
 begun_under_way t (Some (Passes pass)) = Some (Passing pass)
 
--- the CPU with these threads may begin this: the call where its thread runs, a pass where it may come, unless it would end the thread that runs
+-- the CPU with these threads may begin this: the call if its thread runs, or a pass that is allowed
+-- and does not end that thread
 abbrev pub MayBegin : Tid → Threads → Begun → Type 0
 MayBegin t own Calls = own.current ≡ Some t
 MayBegin t own (Passes pass) = MayPass pass own × (pass ≢ End)
@@ -22,35 +23,37 @@ abbrev pub MayPollBegun : Tid → Threads → Option Begun → Type 0
 MayPollBegun t own None = Unit {0}
 MayPollBegun t own (Some begun) = MayBegin t own begun
 
--- an effect that came is one of the call
+-- an effect, if there is one, is that of the call
 abbrev pub IsOne : Call → Option Effect → Type 0
 IsOne call None = Unit {0}
 IsOne call (Some f) = IsEffectOf call f
 
--- what was seen has grown, by just these entries of this CPU, newest first
+-- what was seen has grown, by exactly these entries of this CPU, newest first
 pub record Went (cpu : CpuId) (old new : List Entry) (mine : List Entry) : Type 0 where
   pub more : List Entry
   pub grows : new ≡ more ++ old
   pub own : of_cpu cpu new ≡ mine ++ of_cpu cpu old
 
--- how far a call has come since these entries were seen: it may be polled, and what was seen has grown by the entry of its effect, if that came
+-- A call's progress since these entries were seen. It may be polled. If it took effect, what was
+-- seen has grown by the entry of its effect.
 pub record IsOn (cpu : CpuId) (t : Tid) (call : Call) (call_state : CallState) (old now : List Entry) : Type 0 where
   pub may : MayPollCall call_state call
   pub one : IsOne call (going call_state call).effect
   pub went : Went cpu old now (entries_of cpu t (buffer_of call) (going call_state call).effect)
 
--- the call has answered: it had just one effect, which is this CPU's one new entry, and the reply is that effect's
+-- the call has returned: it had exactly one effect, which is this CPU's one new entry, and the
+-- reply is that effect's
 pub record Returned (cpu : CpuId) (t : Tid) (call : Call) (reply : Reply) (old new : List Entry) : Type 0 where
   pub effect : Effect
   pub is : IsEffectOf call effect
   pub replies : reply ≡ reply_of call effect
   pub went : Went cpu old new (entry_of cpu t (buffer_of call) effect ∷ [])
 
--- however far the call had come, it has come as far after a poll that saw these entries
+-- whatever the call's progress, the call has the same progress after a poll that saw these entries
 abbrev pub KeepsOn : CpuId → Tid → Call → List CallState → List CallState → List Entry → List Entry → Type 0
 KeepsOn cpu t call before after seen new
     = (old : List Entry) → IsOn cpu t call (call_state_of before t) old seen → IsOn cpu t call (call_state_of after t) old new
 
--- however far the call had come, it has returned with a poll that saw these entries
+-- whatever the call's progress, the call has returned with a poll that saw these entries
 abbrev pub EndsCall : CpuId → Tid → Call → Reply → List CallState → List Entry → List Entry → Type 0
 EndsCall cpu t call reply before seen new = (old : List Entry) → IsOn cpu t call (call_state_of before t) old seen → Returned cpu t call reply old new

@@ -1,4 +1,5 @@
--- The workers of one table of the tower's locks, once they have come back and the table is closed.
+-- The workers of one table of the tower's locks, once their threads are joined and the table is
+-- closed.
 use Rattle.std.specs.{Prelude.{◌≡◌, ℕ, ◌*◌, ◌^◌, ◌<◌, ◌≤◌, false, List, length, map, Option, Some, IsSome, option_map, slice_get}, List.AllByRecursion}
 use Rattle.event_log.specs.declared.{entries.Entry.Entry, events.Event.Event, ids.{CpuId.CpuId, LockId.{LockId, TheVariants.Pending}, TheConstants.BUFFERS}}
 use Rattle.event_log.specs.{declared.ids.Tid.Tid, Actions.{Action, AreLegal, acts_of, phase, renamed}}
@@ -18,7 +19,7 @@ use Rattle.cpu_workers.specs.{Orders.{FollowsProgram, IsTraceOf}, Reports.{IsTru
 use Rattle.sleep_wakeup.specs.Nested as sleep
 use Rattle.queuing_lock.specs.Nested as lock
 
--- the tower's edit of the block of a lock, the block, and what an edit answers
+-- the tower's edit of the block of a lock, the block, and the result of an edit
 abbrev pub LockEdit : Type 0
 LockEdit = SleepEdit (QLockEdit (CvEdit BufferEdit) CvLeave)
 
@@ -40,7 +41,7 @@ Key = SeatView (QueueEdit LockEdit) (QueueBlock LockBlock)
 abbrev pub tower_rules : Rules (QueueEdit LockEdit) (QueueBlock LockBlock) (QueueAnswer LockOut)
 tower_rules = queue_rules (nested_rules (busy_rules (cv_rules buffer_monitor_rules))) (nested_moves (busy_rules (cv_rules buffer_monitor_rules)))
 
--- the actions of a words log, by the names of the layers above
+-- the actions of a words log, under the names of the layers over it
 abbrev pub acts_in : WordsOfTower → List (Action TowerName)
 acts_in log = map (renamed (renamed_edit lock.lock_call)) (map (renamed (renamed_edit sleep.slept_edit)) (acts_of edit_of log))
 
@@ -56,8 +57,9 @@ block_shown o = option_map view (option_map (viewed_block nested_lock_of) (optio
 abbrev pub blocks_read : List (LockId × QueueBlock LockBlock) → LockId → Option Block
 blocks_read blocks lock = block_shown (opened blocks lock)
 
--- a table that opened with the locks of this setup: a queue for each of its CPUs, with the homes of its threads, and its buffers, each empty
--- under a free lock with nobody asleep; there is a CPU, and all traces together have less than 2^64 entries
+-- A table that opened with the locks of this setup: a queue for each of its CPUs, with the homes of
+-- its threads, and its buffers. Each buffer is empty, under a free lock with no sleepers. There is
+-- a CPU, and all traces together have less than 2^64 entries.
 pub record StartsSo (setup : Setup) (table_view : TableView (QueueBlock LockBlock)) : Type 0 where
   pub some : 0 < setup.cpus
   pub cpus : table_view.cpus ≡ setup.cpus
@@ -68,12 +70,18 @@ pub record StartsSo (setup : Setup) (table_view : TableView (QueueBlock LockBloc
   pub buffers : length setup.caps ≤ BUFFERS
   pub small : setup.cpus * setup.trace_room < 2 ^ 64
 
--- what a CPU did that has seen these actions: it went from boot to its last state by the step table, in just as many steps as its line tells,
--- with none of its sections under way at the end; between two sections it took a turn only below so many and where the gate, which was asked
--- at each turn so far with the number of turns taken, may have let it pass each time, and none after a `Limit` of the gate if it was held; the
--- gate was asked before each turn, also inside a section, until it answered `Limit`, and let the CPU pass at each where all turns are used; its
--- stop is true of where it stands, and its trace is its effects in what it has seen; the trace kept to its room, each entry is of a thread at
--- home, and each thread at home followed its program
+-- What a CPU did that has seen these actions. It went from boot to its last state by the step
+-- table, in exactly as many steps as its row reports. At the end no section of the CPU is under
+-- way.
+--
+-- Between two sections it took a turn only below so many, and only if the gate may have let it pass
+-- at each turn. The gate was asked with the number of turns taken. If the CPU was held, it took no
+-- such turn after a `Limit`. The gate was asked before each turn, also inside a section, until it
+-- returned `Limit`. If all turns are used, it may have let the CPU pass at each.
+--
+-- The CPU's stop is true of its last state, and its trace is its effects in what it has seen. The
+-- trace is within its room, each entry is of a home thread, and each home thread followed its
+-- program.
 pub record HasSeen (setup : Setup) (May : Go → ℕ → Type 0) (turns : ℕ) (c : CpuId) (acts : List (Action TowerName)) (line : CpuReport) : Type 0 where
   pub last : Private
   pub took : Walked (cpu_step setup c) c (boot_of setup c) last (named acts) line.taken
@@ -91,7 +99,7 @@ pub record HasSeen (setup : Setup) (May : Go → ℕ → Type 0) (turns : ℕ) (
   pub follows : (t : Tid) → home_of setup.homes t ≡ Some c
       → FollowsProgram (program_of setup t) (of_thread t.0 line.trace) (thread_at last t).ended
 
--- the report has a line for each worker that came back with the key of its CPU, and no more lines
+-- the report has a row for each worker that returned the key of its CPU, and no more rows
 pub record HaveCome (setup : Setup) (May : CpuId → Go → ℕ → Type 0) (turns : ℕ) (keys : List Key) (r : ShownReport) : Type 0 where
   pub traces : length r.traces ≡ setup.cpus
   pub taken : length r.taken ≡ setup.cpus
@@ -99,11 +107,12 @@ pub record HaveCome (setup : Setup) (May : CpuId → Go → ℕ → Type 0) (tur
   pub each : (c : CpuId) → c.0 < setup.cpus → (key : Key) × (line : CpuReport) × (slice_get keys c.0 ≡ Some key) × (key.cpu ≡ c) × IsCpuReportOf r c line
       × HasSeen setup (May c) turns c (acts_in key.seen) line
 
--- a report of the closed table, whose blocks are those that `close` gave
+-- a report of the closed table, whose blocks are those that `close` returned
 abbrev pub shown : List (List Entry) → List ℕ → List Stop → List (LockId × QueueBlock LockBlock) → ShownReport
 shown traces taken stops blocks = record { traces = traces; taken = taken; stops = stops; blocks = blocks_read blocks }
 
--- the workers of a table came back, the table was closed with their keys and gave these blocks, and this is the report
+-- the threads of a table's workers were joined, the table was closed with their keys and returned
+-- these blocks, and this is the report
 pub record IsReported (setup : Setup) (May : CpuId → Go → ℕ → Type 0) (turns : ℕ) (table_view : TableView (QueueBlock LockBlock)) (keys : List Key)
     (blocks : List (LockId × QueueBlock LockBlock)) (r : ShownReport) : Type 0 where
   pub starts : StartsSo setup table_view
@@ -111,7 +120,7 @@ pub record IsReported (setup : Setup) (May : CpuId → Go → ℕ → Type 0) (t
   pub closes : ClosesTable tower_rules table_view keys blocks
   pub told : r.blocks ≡ blocks_read blocks
 
--- such a report is lawful, whatever this gate may answer
+-- such a report is lawful, whatever this gate may return
 abbrev pub ReportsAreLawful : (CpuId → Go → ℕ → Type 0) → Type 0
 ReportsAreLawful May = (setup : Setup) (turns : ℕ) (table_view : TableView (QueueBlock LockBlock)) (keys : List Key)
     (blocks : List (LockId × QueueBlock LockBlock)) (r : ShownReport) → IsReported setup May turns table_view keys blocks r → IsLawfulReport setup May turns r

@@ -1,20 +1,24 @@
--- Threads are linearizable (Herlihy and Wing 1990) by the order of their atomic steps: each call takes effect in one of these, from its first to
--- that in which it returns, and the one order is that of these steps.
+-- Threads are linearizable (Herlihy and Wing 1990) in the order of their atomic steps. Each call
+-- takes effect in one of these steps, its linearization point: between its first step and the one
+-- in which it returns. The one order of calls is that of these steps.
 use Rattle.std.specs.Prelude.{◌≡◌, ◌<◌, List, ◌++◌, Contains, reverse, Option, Some, None, if◌then◌else◌}
 use Rattle.{event_log.specs.{declared.{entries.Entry.Entry, ids.{CpuId.CpuId, Tid.Tid}}, Actions.Action}, guest.specs.{Calls.IsProgramsCalls, State.State}}
 use Rattle.{cpu.specs.{Cpus.of_thread, Linear.ComesBefore, Wakeups.Lost.IsWorked, Tower.{Composed.named, Views.TowerName}}}
 use Rattle.cpu.specs.Table.{Choice.guest_after, Setups.{Call, Private, Setup, has_none, program_of, stands_at, thread_at}}
 use Rattle.cpu_workers.specs.{Laws.OrderGoesOn, Orders.{IsTraceOf, effects_of}}
 
--- up to where a thread has come by its calls that took effect: it stands there, or will once the call returns that it is inside
+-- the state up to which a thread's calls have taken effect: its present state, or that in which its
+-- call under way will leave it
 abbrev pub come_to : Setup → Private → Tid → Option Call → State
 come_to setup p t None = (thread_at p t).guest
 come_to setup p t (Some call) =
     if has_none call.effect then (thread_at p t).guest else guest_after call.asks call.closed (stands_at setup p t) call.message (thread_at p t).guest
 
--- A front of a list of atomic steps is a moment of threads. Each CPU has come there by the step table. Its trace is what the order of the calls at this
--- front has of it, and each thread's entries are its program's calls up to where it has come: so each call that has returned is in that order, and of
--- each thread at most one more, which it is inside. Behind the front the order goes on, and what is in it comes before what is not.
+-- A prefix of a list of atomic steps is a moment of threads. Each CPU has reached it by the step
+-- table. Its trace is the CPU's entries in the order of the calls at this prefix. Each thread's
+-- entries are its program's calls up to its state. Therefore each call that has returned is in that
+-- order, and of each thread at most one more, which the thread is inside. Further actions extend
+-- the order, and what is in it at this prefix is before what is not.
 pub record IsFront (setup : Setup) (later earlier : List (Action TowerName)) : Type 0 where
   pub worked : IsWorked setup (named earlier)
   pub keeps : (c : CpuId) → (below : c.0 < setup.cpus) → IsTraceOf c setup.caps earlier (worked.ran c below).last.trace
@@ -25,6 +29,6 @@ pub record IsFront (setup : Setup) (later earlier : List (Action TowerName)) : T
   pub before : (a b : Entry) → Contains (reverse (effects_of setup.caps earlier)) a → Contains goes_on.more b
       → ComesBefore (reverse (effects_of setup.caps (later ++ earlier))) a b
 
--- so it is at each front
+-- each prefix of the list is so
 abbrev pub AreLinearizable : Setup → List (Action TowerName) → Type 0
 AreLinearizable setup acts = (later earlier : List (Action TowerName)) → acts ≡ later ++ earlier → IsFront setup later earlier

@@ -1,4 +1,5 @@
--- What the report of workers tells: one order of their traces, and the run of each by the step table along one list of actions.
+-- What the report of workers states: one order of their traces, and the run of each by the step
+-- table along one list of actions.
 use Rattle.std.specs.{Prelude.{◌≡◌, ℕ, ◌<◌, ◌≤◌, false, List, [], length, reverse, Option, Some, None, slice_get}, List.AllByRecursion}
 use Rattle.event_log.specs.declared.{entries.Entry.Entry, ids.{BufId.BufId, CpuId.CpuId, LockId.{LockId, TheVariants.{Pending, Buffer as AtBuffer}}, Tid.Tid}}
 use Rattle.event_log.specs.{Actions.{Action, AreLegal, cpu_of_action, phase}, History.own_events, Messages.Message, Runs.IsRun, Streams.IsFirstInFirstOut}
@@ -9,20 +10,21 @@ use Rattle.{cpu.specs.{Table.Steps.halted_at, Wakeups.Lost.NoWakeUpIsLost}, cpu_
 use Rattle.cpu_workers.specs.{declared.workers.stops.Stop.{Stop, TheVariants.{AllEnded, TurnsUsed, Held}}, Reports.{IsTrueStop, MayHold, MayTakeTurn, Walked}}
 use Rattle.cpu_workers.specs.Reports.{TookWithin, WasHeld, PassedAtEach, AskedAtEach}
 
--- what a report tells of one CPU: its trace, oldest first, how many turns it took, and why it stopped
+-- a report's row for one CPU: its trace, oldest first, how many turns it took, and why it stopped
 pub record CpuReport : Type 0 where
   pub trace : List Entry
   pub taken : ℕ
   pub stop : Stop
 
--- a report as plain data: the traces, the turns taken and the stops of all CPUs, and the block of each lock, as the step table has blocks
+-- a report as plain data: the traces, the turns taken and the stops of all CPUs, and each lock's
+-- block, in the step table's form
 pub record ShownReport : Type 0 where
   pub traces : List (List Entry)
   pub taken : List ℕ
   pub stops : List Stop
   pub blocks : LockId → Option Block
 
--- the report has this line at the CPU's number
+-- the report has this row at the CPU's number
 pub record IsCpuReportOf (r : ShownReport) (c : CpuId) (line : CpuReport) : Type 0 where
   pub trace : slice_get r.traces c.0 ≡ Some line.trace
   pub taken : slice_get r.taken c.0 ≡ Some line.taken
@@ -42,15 +44,18 @@ held_at blocks b = messages_in (blocks (AtBuffer b))
 abbrev pub left_in : ℕ → ShownReport → List (List Message)
 left_in n r = listed (λ b. held_at r.blocks (buffer_at b)) 0 n
 
--- the program of a thread has ended behind these entries, oldest first
+-- the program of a thread has ended after these entries, oldest first
 pub record EndsAt (setup : Setup) (t : Tid) (entries : List Entry) : Type 0 where
   pub state : State
   pub calls : IsProgramsCalls (program_of setup t) (reverse entries) state
   pub ends : HasEnded (program_of setup t) state
 
--- what is told of a CPU is true: its trace kept to its room, each entry is of a thread at home, and a thread's entries are its program's calls;
--- it stopped with `AllEnded` only where all programs at home have ended, with `TurnsUsed` only after its turns, and with `Held` only where the
--- gate may have held it
+-- The row of a CPU is true:
+-- - Its trace is within its room, each entry is of a home thread, and a thread's entries are its
+--   program's calls.
+-- - It stopped with `AllEnded` only if all programs of home threads have ended.
+-- - It stopped with `TurnsUsed` only after its turns, and with `Held` only if the gate may have
+--   held it.
 pub record ReportsTrue (setup : Setup) (May : Go → ℕ → Type 0) (turns : ℕ) (c : CpuId) (line : CpuReport) : Type 0 where
   pub room : length line.trace ≤ setup.trace_room
   pub stays : AllByRecursion (IsOfHome setup.homes c) line.trace
@@ -59,9 +64,10 @@ pub record ReportsTrue (setup : Setup) (May : Go → ℕ → Type 0) (turns : �
   pub used : line.stop ≡ TurnsUsed → turns ≤ line.taken
   pub held : line.stop ≡ Held → MayHold (May Limit) line.taken
 
--- a report of workers: its lists have one element for each CPU; its traces have one order that keeps each of them, is a run of first-in first-out
--- buffers and ends in what the blocks hold: for each buffer, what was put is what was taken, in that order, and then what its block holds; and
--- what it tells of each CPU is true
+-- A report of workers: its lists have one element for each CPU. Its traces have one order that
+-- keeps each of them, is a legal history of FIFO buffers and ends in what the blocks hold. For each
+-- buffer the values put are, in that order, the values taken, followed by what its block holds. The
+-- row of each CPU is true.
 pub record IsReport (setup : Setup) (May : CpuId → Go → ℕ → Type 0) (turns : ℕ) (r : ShownReport) : Type 0 where
   pub traces_count : length r.traces ≡ setup.cpus
   pub taken_count : length r.taken ≡ setup.cpus
@@ -72,11 +78,15 @@ pub record IsReport (setup : Setup) (May : CpuId → Go → ℕ → Type 0) (tur
   pub fifo : IsFirstInFirstOut order (left_in (length setup.caps) r)
   pub each : (c : CpuId) → c.0 < setup.cpus → (line : CpuReport) × IsCpuReportOf r c line × ReportsTrue setup (May c) turns c line
 
--- a CPU went along this list of actions by the step table: from boot to its last state, in just as many steps as its line tells, with none of
--- its sections under way at the end; between two sections it took a turn only below so many and where the gate, which was
--- asked at each turn so far with the number of turns taken, may have let it pass each time, and none after a `Limit` of the
--- gate if it was held; the gate was asked before each turn, also inside a section, until it answered `Limit`, and let the CPU pass at each where
--- all turns are used; the line has its trace, and its stop is true of where it stands
+-- A CPU went along this list of actions by the step table. It went from boot to its last state, in
+-- exactly as many steps as its row reports. At the end no section of the CPU is under way.
+--
+-- Between two sections it took a turn only below so many, and only if the gate may have let it pass
+-- at each turn. The gate was asked with the number of turns taken. If the CPU was held, it took no
+-- such turn after a `Limit`. The gate was asked before each turn, also inside a section, until it
+-- returned `Limit`. If all turns are used, it may have let the CPU pass at each.
+--
+-- The row has the CPU's trace, and its stop is true of the CPU's last state.
 pub record HasGone (setup : Setup) (May : Go → ℕ → Type 0) (turns : ℕ) (c : CpuId) (log : List (Action Name)) (line : CpuReport) : Type 0 where
   pub last : Private
   pub trace_is : line.trace ≡ last.trace
@@ -93,8 +103,9 @@ pub record AreLeft (setup : Setup) (log : List (Action Name)) (r : ShownReport) 
   pub buffers : (b : BufId) → r.blocks (AtBuffer b) ≡ block_at setup (AtBuffer b) log
   pub queues : (c : CpuId) → c.0 < setup.cpus → r.blocks (Pending c) ≡ block_at setup (Pending c) log
 
--- a lawful report: there is one legal list of actions along which each CPU went by the step table, and which has no others' actions; the blocks
--- are what it leaves; and no wake-up is lost in them
+-- a lawful report: there is one legal list of actions along which each CPU went by the step table,
+-- and which has no other actions. The blocks are what the list leaves, and no wake-up is lost in
+-- them.
 pub record IsLawfulReport (setup : Setup) (May : CpuId → Go → ℕ → Type 0) (turns : ℕ) (r : ShownReport) : Type 0 where
   pub report : IsReport setup May turns r
   pub log : List (Action Name)

@@ -9,7 +9,8 @@ use Rattle.{cpu.specs.{Claims.{buffer_at, listed}, Tower.Views.TowerName}, cpu_w
 use Rattle.cpu_workers.specs.{Callers.{CallerView, IsSameCaller}, Closing.{Key, WordsOfTower, acts_in, blocks_read, tower_rules}, Lawful.held_at}
 use Rattle.cpu_workers.specs.{Orders.{IsTraceOf, effects_of}, Seating.{AnyBlock, tower_acts}}
 
--- a native has run at its caller, which is the same, and has kept what it promises of itself and of the calls
+-- a native has run at its caller, which is the same, and has kept what it promises of itself and of
+-- the calls
 pub record HasKept {N : Type 0} (Kept : N → N → CallerView → Type 0) (native : N) (caller : CallerView) (after : N) (last : CallerView) : Type 0 where
   pub kept : Kept native after last
   pub same : IsSameCaller caller last
@@ -21,16 +22,18 @@ pub record IsNewCaller (caps : List ℕ) (c : CpuId) (caller : CallerView) : Typ
   pub caps_are : caller.caps ≡ caps
   pub fresh : caller.calls ≡ []
 
--- a caller has left its machine, which has seen these actions: its calls are, once and in their order, its CPU's effects in them, and not too many;
--- and no section of the CPU is under way
+-- A caller has left its machine, which has seen these actions. Its calls are its CPU's effects in
+-- them, once each and in order, and at most `MOST_CALLS`. No section of the CPU is under way.
 pub record HasLeftMachine (caller : CallerView) (acts : List (Action TowerName)) (site : List ℕ) : Type 0 where
   pub site_is : site ≡ caller.site
   pub few : length caller.calls ≤ MOST_CALLS
   pub trace : IsTraceOf caller.cpu caller.caps acts caller.calls
   pub rests : is_in_section (phase caller.cpu acts) ≡ false
 
--- the native of a CPU has run, as the thread of the same number, with a machine that has seen these actions: it has kept what it promises of itself
--- and of its calls, which are, once and in their order, the CPU's effects in those actions, and not too many; and no section of the CPU is under way
+-- the native of a CPU has run, as the thread of the same number, with a machine that has seen these
+-- actions. It has kept what it promises of itself and of its calls. The calls are the CPU's effects
+-- in those actions, once each and in order, and at most `MOST_CALLS`. No section of the CPU is
+-- under way.
 pub record HasLeftCalls {N : Type 0} (Kept : N → N → CallerView → Type 0) (caps : List ℕ) (c : CpuId) (native after : N) (acts : List (Action TowerName))
     : Type 0 where
   pub caller : CallerView
@@ -42,8 +45,8 @@ pub record HasLeftCalls {N : Type 0} (Kept : N → N → CallerView → Type 0) 
   pub trace : IsTraceOf c caps acts caller.calls
   pub rests : is_in_section (phase c acts) ≡ false
 
--- the locks of the tower open for so many CPUs: an empty queue for each, with the home of each thread, and an empty buffer of each capacity
--- under a free lock
+-- the locks of the tower open for so many CPUs: an empty queue for each, with all threads' homes,
+-- and an empty buffer of each capacity under a free lock
 pub record OpensWith (cpus : ℕ) (caps : List ℕ) (homes : List CpuId) (opening : LockId → Option AnyBlock) : Type 0 where
   pub starts : StartsWell opening
   pub homes_are : homes_in opening ≡ homes
@@ -54,7 +57,7 @@ pub record OpensWith (cpus : ℕ) (caps : List ℕ) (homes : List CpuId) (openin
 abbrev pub left_among : ℕ → List (LockId × AnyBlock) → List (List Message)
 left_among n blocks = listed (λ b. held_at (blocks_read blocks) (buffer_at b)) 0 n
 
--- what one native has done, where they stood in these lists, at the CPU and as the thread of its number
+-- what one native has done, at its place in these lists, at the CPU and as the thread of its number
 pub record HasRunNative {N : Type 0} (Kept : N → N → CallerView → Type 0) (caps : List ℕ) (k : ℕ) (native after : N) (caller : CallerView) : Type 0 where
   pub cpu_is : caller.cpu ≡ cpu_at k
   pub thread_is : caller.thread.0 ≡ k
@@ -65,7 +68,8 @@ pub record HasRunNative {N : Type 0} (Kept : N → N → CallerView → Type 0) 
 abbrev pub own_homes : ℕ → List CpuId
 own_homes n = listed cpu_at 0 n
 
--- this order is that of the effects of the frees in one words log, which is legal over the locks as they open for so many CPUs
+-- This order is that of the effects of the releases in one words log. The log is legal over the
+-- locks as they open for so many CPUs.
 pub record IsOrderOfWords (cpus : ℕ) (caps : List ℕ) (homes : List CpuId) (order : List Entry) : Type 0 where
   pub opening : LockId → Option AnyBlock
   pub opens : OpensWith cpus caps homes opening
@@ -73,10 +77,12 @@ pub record IsOrderOfWords (cpus : ℕ) (caps : List ℕ) (homes : List CpuId) (o
   pub legal : IsLawful (MayCome (tower_rules.allowed opening)) words
   pub order_is : order ≡ reverse (effects_of caps (acts_in words))
 
--- natives have run, each at the CPU and as the thread of its number, and have left this in the buffers: each has kept what it promises of itself and of
--- its calls, and nobody else made a call; the calls of all have one order, that of the atomic steps by which they took effect, which keeps each one's
--- own, is a run of first-in first-out buffers and ends in what is left. So what was put into a buffer is what was taken from it, in that order, and
--- then what is left there
+-- Natives have run, each at the CPU and as the thread of its number, and have left this in the
+-- buffers. Each has kept what it promises of itself and of its calls, and no other thread made a
+-- call. The calls of all have one order: that of the atomic steps by which they took effect. It
+-- keeps each native's order, is a legal history of FIFO buffers and ends in what is left. Therefore
+-- the values put into a buffer are, in that order, the values taken from it, followed by what is
+-- left there.
 pub record HaveRun {N : Type 0} (Kept : N → N → CallerView → Type 0) (caps : List ℕ) (natives after : List N) (left : List (List Message)) : Type 0 where
   pub callers : List CallerView
   pub nobody_else : length callers ≡ length natives

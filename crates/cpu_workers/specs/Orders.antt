@@ -5,22 +5,25 @@ use Rattle.guest.specs.{declared.instructions.Instruction.Instruction, Calls.{Is
 use Rattle.layer_traits.specs.{Layers.Queues.{buffer_sections, event_of}, Blocks.BufferEffects.{effects_in, opening_locks}, Threads.Places.home_of}
 use Rattle.{cpu.specs.{Cpus.{IsOfHome, of_cpu, of_thread}, Table.Setups.thread_at, Tower.Views.TowerName}, cpu_workers.specs.Working.Working}
 
--- the effects of the sections of these actions on buffers of these capacities, which were empty; newest first
+-- the effects of the sections of these actions on buffers of these capacities, which were empty;
+-- newest first
 abbrev pub effects_of : List ℕ → List (Action TowerName) → List Entry
 effects_of caps acts = effects_in (opening_locks caps) (buffer_sections (map event_of (sections_in acts)))
 
--- a trace, oldest first, is the CPU's effects, once and in their order
+-- a trace, oldest first, is the CPU's effects, once each and in order
 abbrev pub IsTraceOf : CpuId → List ℕ → List (Action TowerName) → List Entry → Type 0
 IsTraceOf c caps acts trace = trace ≡ reverse (of_cpu c (effects_of caps acts))
 
--- a thread's entries, oldest first, are the calls of its program up to some state, and it has ended only where the program ends there
+-- a thread's entries, oldest first, are the calls of its program up to some state, and it has ended
+-- only if the program ends there
 pub record FollowsProgram (program : List Instruction) (entries : List Entry) (ended : Bool) : Type 0 where
   pub state : State
   pub calls : IsProgramsCalls program (reverse entries) state
   pub ends : ended ≡ true → HasEnded program state
 
--- the threads of a worker have followed their programs: its trace has no more entries than there is room for, each is of a thread at home,
--- and each thread at home has a program, whose calls its entries are
+-- The threads of a worker have followed their programs. The worker's trace has no more entries than
+-- its room, and each is of a home thread. Each home thread has a program, whose calls its entries
+-- are.
 pub record HasFollowed (w : Working) : Type 0 where
   pub room : length w.private.trace ≤ w.plan.limit
   pub stays : AllByRecursion (IsOfHome w.plan.homes w.cpu) w.private.trace

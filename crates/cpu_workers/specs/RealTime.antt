@@ -1,10 +1,12 @@
--- Real time, in the words of Herlihy and Wing: a call that has returned at some moment comes before each that has not begun there.
+-- Real time, as Herlihy and Wing define it. At each moment, a call that has returned is in the
+-- order before each call that has not begun.
 use Rattle.std.specs.Prelude.{◌≡◌, ℕ, ◌+◌, ◌-◌, ◌<◌, ◌≤◌, List, ◌++◌, length, reverse, take, Option, Some, None, slice_get, if◌then◌else◌}
 use Rattle.event_log.specs.{declared.{entries.Entry.Entry, ids.{CpuId.CpuId, Tid.Tid}}, Actions.Action}
 use Rattle.{cpu.specs.{Cpus.{of_cpu, of_thread}, Table.Setups.{Call, Private, Setup, has_none, thread_at}, Tower.Views.TowerName}}
 use Rattle.cpu_workers.specs.{Fronts.AreLinearizable, Orders.effects_of}
 
--- how many calls of a thread have returned, and how many have begun, where so many took effect and this one is under way
+-- how many calls of a thread have returned, and how many have begun, if so many took effect and
+-- this one is under way
 abbrev pub returned_with : Option Call → ℕ → ℕ
 returned_with None effects = effects
 returned_with (Some call) effects = if has_none call.effect then effects else effects - 1
@@ -17,14 +19,15 @@ begun_with (Some call) effects = if has_none call.effect then effects + 1 else e
 abbrev pub thread_entries : CpuId → Tid → List Entry → List Entry
 thread_entries c t es = of_thread t.0 (of_cpu c es)
 
--- where a CPU's thread has come, so many of its calls have returned, and so many have begun
+-- how many calls of a CPU's thread have returned, and how many have begun, in the CPU's present
+-- state
 abbrev pub calls_returned : Private → Tid → ℕ
 calls_returned p t = returned_with (thread_at p t).call (length (of_thread t.0 p.trace))
 
 abbrev pub calls_begun : Private → Tid → ℕ
 calls_begun p t = begun_with (thread_at p t).call (length (of_thread t.0 p.trace))
 
--- call i of the CPU's thread, counted from 0, stands at this place of the order
+-- call i of the CPU's thread, counted from 0, is at this place of the order
 pub record StandsAt (c : CpuId) (t : Tid) (i : ℕ) (order : List Entry) (place : ℕ) : Type 0 where
   pub entry : Entry
   pub there : slice_get order place ≡ Some entry
@@ -32,8 +35,8 @@ pub record StandsAt (c : CpuId) (t : Tid) (i : ℕ) (order : List Entry) (place 
   pub thread : entry.thread.0 ≡ t.0
   pub before : length (thread_entries c t (take place order)) ≡ i
 
--- at each front of linearizable actions: call i of one thread has returned, call j of another has not begun; so in the order of all calls i's
--- stands before j's
+-- The theorem, at each prefix of linearizable actions. If call i of one thread has returned and
+-- call j of another has not begun, then i is before j in the order of all calls.
 abbrev pub ReturnedComeFirst : Type 0
 ReturnedComeFirst = (setup : Setup) (acts later earlier : List (Action TowerName)) → (linear : AreLinearizable setup acts) → (is : acts ≡ later ++ earlier)
     → (c d : CpuId) (here : c.0 < setup.cpus) (there : d.0 < setup.cpus) (t u : Tid) (i j p q : ℕ)

@@ -20,14 +20,15 @@ pub record CountsTurns (shown count : ℕ) : Type 0 where
   pub least : shown ≤ count
   pub exact : shown < most → count ≡ shown
 
--- a CPU went along a list of actions by a table of steps from its first state to its last, in as many steps as are shown
+-- a CPU went along a list of actions under a table of steps, from its first state to its last, in
+-- so many steps
 pub record Walked {P N : Type 0} (table : P → List (Action N) → Outcome P N) (cpu : CpuId) (first last : P) (log : List (Action N)) (shown : ℕ) : Type 0 where
   pub count : ℕ
   pub steps : Along table cpu first count last log
   pub counted : CountsTurns shown count
 
--- the way of a CPU along a list of actions, as `Along`, on which each step between two of its sections is taken only where so many steps
--- allow one more
+-- how a CPU went along a list of actions, as `Along`; each step between two of its sections is
+-- taken only if so many steps allow one more
 pub data Within {P N : Type 0} (table : P → List (Action N) → Outcome P N) (cpu : CpuId) (May : ℕ → Type 0) (start : P) :
     ℕ → P → List (Action N) → Type 0 where
   none_taken : Within table cpu May start 0 start []
@@ -47,11 +48,13 @@ pub record TookWithin {P N : Type 0} (table : P → List (Action N) → Outcome 
 abbrev pub below : ℕ → ℕ → Type 0
 below turns count = count < turns
 
--- the gate was asked at each turn up to the one after so many, with the number of turns taken, and may have let the CPU pass each time
+-- The gate was asked at each turn up to the one after so many, with the number of turns taken. Each
+-- time it may have let the CPU pass.
 abbrev pub WasAsked : (ℕ → Type 0) → ℕ → Type 0
 WasAsked MayPass count = (shown : ℕ) × CountsTurns shown count × ((k : ℕ) → k ≤ shown → MayPass k)
 
--- a CPU was held: after so many turns the gate may have answered `Limit`, and from there on the CPU took none but to end its section
+-- A CPU was held. After so many turns the gate may have returned `Limit`, and after that the CPU
+-- took no turn except to end its section.
 pub record WasHeld {P N : Type 0} (table : P → List (Action N) → Outcome P N) (cpu : CpuId) (May : ℕ → Type 0) (first last : P)
     (log : List (Action N)) (taken : ℕ) : Type 0 where
   pub turn : ℕ
@@ -61,12 +64,12 @@ pub record WasHeld {P N : Type 0} (table : P → List (Action N) → Outcome P N
   pub counted : CountsTurns turn count
   pub within : TookWithin table cpu (below count) first last log taken
 
--- the gate may have answered `Limit` at some turn that was asked for
+-- the gate may have returned `Limit` at some turn that was asked for
 abbrev pub MayHold : (ℕ → Type 0) → ℕ → Type 0
 MayHold May taken = (turn : ℕ) × (turn ≤ taken) × May turn
 
--- the gate was asked before each of so many turns, until it answered `Limit`: at each it may have let the CPU pass, or have answered `Limit` there
--- or earlier
+-- The gate was asked before each of so many turns, until it returned `Limit`. At each it may have
+-- let the CPU pass, or have returned `Limit` there or earlier.
 abbrev pub AskedAtEach : (Go → ℕ → Type 0) → ℕ → Type 0
 AskedAtEach May taken = (k : ℕ) → k < taken → May Pass k ⊎ MayHold (May Limit) k
 
@@ -81,14 +84,17 @@ IsTrueStop halted May turns taken TraceFull = halted ≡ Some reason.TraceFull
 IsTrueStop halted May turns taken TurnsUsed = (halted ≡ None) × (turns ≤ taken)
 IsTrueStop halted May turns taken Held = (halted ≡ None) × MayHold May taken
 
--- after so many turns a worker may take one more between two sections: fewer than `turns` were taken, and the gate was asked at each turn so
--- far, and just then, and may have let it pass each time
+-- After so many turns a worker may take one more between two sections. Fewer than `turns` were
+-- taken. The gate was asked at each turn so far and at this one, and may have let it pass each
+-- time.
 abbrev pub MayTakeTurn : ℕ → (ℕ → Type 0) → ℕ → Type 0
 MayTakeTurn turns MayPass count = below turns count × WasAsked MayPass count
 
--- a worker has run by the step table: between two sections it took a turn only below so many and where the gate, which was asked at each turn
--- so far with the number of turns taken, may have let it pass each time; if it was held, it took none after a `Limit` but to end its section; the
--- gate was asked before each turn, also inside a section, until it answered `Limit`; and where all turns are used, it let the worker pass at each
+-- A worker has run by the step table. Between two sections it took a turn only below so many, and
+-- only if the gate may have let it pass at each turn. The gate was asked with the number of turns
+-- taken. If the worker was held, it took no turn after a `Limit` except to end its section. The
+-- gate was asked before each turn, also inside a section, until it returned `Limit`. If all turns
+-- are used, it may have let the worker pass at each.
 pub record WentBy (setup : Setup) (May : Go → ℕ → Type 0) (turns : ℕ) (old new : Working) (taken : ℕ) (stop : Stop) : Type 0 where
   pub took : Walked (cpu_step setup old.cpu) old.cpu old.private new.private (log new) taken
   pub within : TookWithin (cpu_step setup old.cpu) old.cpu (MayTakeTurn turns (May Pass)) old.private new.private (log new) taken
@@ -97,7 +103,8 @@ pub record WentBy (setup : Setup) (May : Go → ℕ → Type 0) (turns : ℕ) (o
   pub used : stop ≡ TurnsUsed → PassedAtEach (May Pass) taken
   pub stop_is : IsTrueStop (halted_at setup old.cpu new.private) (May Limit) turns taken stop
 
--- a worker has run: it is the same one, none of its sections is under way, and each table of its plan tells its steps and its stop
+-- A worker has run. It is the same one, and none of its sections is under way. Each table of its
+-- plan gives its steps and its stop.
 pub record HasRun (May : CpuId → Go → ℕ → Type 0) (turns : ℕ) (old new : Working) (taken : ℕ) (stop : Stop) : Type 0 where
   pub same : IsSame old new
   pub rests : is_inside new ≡ false

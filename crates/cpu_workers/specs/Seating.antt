@@ -1,4 +1,5 @@
--- The workers of a plan at one table: their actions by the layers' names, what each has done, and the blocks that they leave.
+-- The workers of a plan at one table: their actions under the layers' names, what each has done,
+-- and the blocks that they leave.
 use Rattle.std.specs.Prelude.{◌≡◌, ℕ, List, [], map, length, slice_get, Option, Some, IsSome, ◌<◌}
 use Rattle.{boot.specs.Plan.BootPlan, event_log.specs.declared.{entries.Entry.Entry, ids.{BufId.BufId, CpuId.CpuId, LockId.{LockId, TheVariants.Pending}}}}
 use Rattle.{event_log.specs.{Actions.{Action, AreLegal, acts_of, renamed}, Messages.Message}, layer_traits.specs.declared.queue_edits.QueueBlock.QueueBlock}
@@ -20,16 +21,16 @@ AnyBlock = QueueBlock LockBlock
 abbrev pub tower_acts : List (Action Edit) → List (Action TowerName)
 tower_acts acts = map (renamed (renamed_edit lock_call)) (map (renamed (renamed_edit slept_edit)) acts)
 
--- the locks of the tower open as a plan says: an empty queue for each CPU, with the home of each thread, and an empty buffer of each
--- capacity under a free lock
+-- The locks of the tower open as a plan says. There is an empty queue for each CPU, with the home
+-- of each thread. There is an empty buffer of each capacity under a free lock.
 pub record OpensPlan (plan : BootPlan) (opening : LockId → Option AnyBlock) : Type 0 where
   pub starts : StartsWell opening
   pub homes : homes_in opening ≡ homes_for plan
   pub queues : (c : CpuId) → c.0 < plan.cpus → IsSome (opening (Pending c))
   pub locks : inner (viewed nested_lock_of (viewed state_of opening)) ≡ opening_locks plan.caps
 
--- a machine for one CPU's worker before its first turn: it acts for the CPU, no section of which is under way, has seen no section and no
--- action, and its locks open so
+-- a machine for one CPU's worker before its first turn: it acts for the CPU, no section of which is
+-- under way. It has seen no section and no action, and its locks open as given.
 pub record IsReadySeat (Acts Rests Unseen Idle Opens : Type 0) : Type 0 where
   pub acts : Acts
   pub rests : Rests
@@ -37,8 +38,9 @@ pub record IsReadySeat (Acts Rests Unseen Idle Opens : Type 0) : Type 0 where
   pub idle : Idle
   pub opens : Opens
 
--- a tower's machine for the worker of one CPU of a plan, in which nothing was done: it is fresh, has the plan's homes and capacities, has seen
--- no effect and no action, and each of its buffers opens empty
+-- A tower's machine for the worker of one CPU of a plan, in which nothing was done. It is fresh,
+-- has the plan's homes and capacities, and has seen no effect and no action. Each of its buffers
+-- opens empty.
 pub record IsUnused (Fresh Homes Caps Unseen Idle Opens : Type 0) : Type 0 where
   pub fresh : Fresh
   pub homes : Homes
@@ -63,7 +65,8 @@ pub record IsApart (w : Working) (acts : List (Action TowerName)) (site : List �
   pub legal : AreLegal w.acts
   pub follows : HasFollowed w
 
--- the worker of a CPU of a plan has run from before its first turn to where it stopped, and this is what it left
+-- the worker of a CPU of a plan has run from before its first turn to its stop, and this is what it
+-- left
 pub record HasLeft (plan : BootPlan) (May : CpuId → Go → ℕ → Type 0) (turns : ℕ) (c : CpuId) (acts : List (Action TowerName)) (site : List ℕ)
     (trace : List Entry) (taken : ℕ) (stop : Stop) : Type 0 where
   pub first : Working
@@ -79,7 +82,7 @@ pub record LeftKey (plan : BootPlan) (May : CpuId → Go → ℕ → Type 0) (tu
   pub over : IsOver table_view key
   pub left : HasLeft plan May turns c (tower_acts (acts_of edit_of key.seen)) (site_of key.table) trace taken stop
 
--- the workers of all CPUs have left what stands in these lists, by CPU
+-- the workers of all CPUs have left what these lists have, by CPU
 pub record HaveLeft (plan : BootPlan) (May : CpuId → Go → ℕ → Type 0) (turns : ℕ) (table_view : TableView AnyBlock) (keys : List Key)
     (traces : List (List Entry))
     (taken : List ℕ) (stops : List Stop) : Type 0 where
@@ -91,6 +94,6 @@ pub record HaveLeft (plan : BootPlan) (May : CpuId → Go → ℕ → Type 0) (t
       × (slice_get keys c.0 ≡ Some key) × (slice_get traces c.0 ≡ Some trace) × (slice_get taken c.0 ≡ Some n) × (slice_get stops c.0 ≡ Some stop)
       × LeftKey plan May turns table_view c key trace n stop
 
--- the items of a buffer among these blocks, as a report tells them
+-- the items of a buffer according to these blocks, as a report gives them
 abbrev pub items_of_block : List (LockId × AnyBlock) → BufId → List Message
 items_of_block blocks b = held_at (blocks_read blocks) b

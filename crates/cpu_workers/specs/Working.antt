@@ -4,16 +4,16 @@ use Rattle.{event_log.specs.{declared.ids.{CpuId.CpuId, Tid.Tid}, Actions.{Actio
 use Rattle.{layer_traits.specs.{declared.steps.Step.{Step, TheVariants.Stepped}, Polling.{Along.IsStep, Plans.is_in_section}}, cpu.specs.Table.Blocks.Name}
 use Rattle.cpu.specs.{Table.{Setups.{Setup, Private, program_of}, Steps.{cpu_step, halted_at}}, Tower.{Composed.{busy_step_answer, named}, Views.TowerName}}
 
--- what no turn changes: the home of each thread, the capacity of each buffer, the programs of the threads at home, and for how many
--- entries the trace has room
+-- what no turn changes: the home of each thread, the capacity of each buffer, the programs of the
+-- home threads, and the trace's room
 pub record Charge : Type 0 where
   pub homes : List CpuId
   pub caps : List ℕ
   pub programs : List (Option (List Instruction))
   pub limit : ℕ
 
--- a worker to its callers: its CPU, its plan, the CPU's private state in the step table, the actions that the CPU has seen, newest first,
--- and which machine it is
+-- A worker as its callers see it: its CPU, its plan, and the CPU's private state in the step table.
+-- Further it has the actions that the CPU has seen, newest first, and which machine it is.
 pub record Working : Type 0 where
   pub cpu : CpuId
   pub plan : Charge
@@ -29,7 +29,8 @@ log w = named w.acts
 abbrev pub is_inside : Working → Bool
 is_inside w = is_in_section (phase w.cpu (log w))
 
--- the step table is that of this plan: it may know more programs, those of the threads of other homes
+-- the step table is that of this plan: it may contain more programs, those of other CPUs' home
+-- threads
 pub record IsPlanned (setup : Setup) (plan : Charge) : Type 0 where
   pub homes_are : setup.homes ≡ plan.homes
   pub caps_are : setup.caps ≡ plan.caps
@@ -42,16 +43,17 @@ pub record IsSame (old new : Working) : Type 0 where
   pub plan : new.plan ≡ old.plan
   pub site : new.site ≡ old.site
 
--- a turn: other CPUs acted, and then this one went on by the step table and answered so
+-- a turn: other CPUs acted, and then this CPU took a step of the table with this result
 abbrev pub Turned : Working → Working → Step → Type 0
 Turned old new answer = (setup : Setup) → IsPlanned setup old.plan
     → IsStep (λ c. c ≡ old.cpu) (cpu_step setup old.cpu) old.private new.private (log old) (log new) answer
 
--- so many turns, one behind the other, each with a step of the table
+-- so many turns, one after the other, each with a step of the table
 pub data TookTurns (old : Working) : ℕ → Working → Type 0 where
   no_turns : TookTurns old 0 old
   one_more : {k : ℕ} {now new : Working} → TookTurns old k now → IsSame now new → Turned now new Stepped → TookTurns old (k + 1) new
 
--- the step table takes a step of the worker's CPU, whatever other CPUs do before it: a section of it is under way, or it is not halted
+-- The step table takes a step of the worker's CPU, whatever other CPUs do before it. A section of
+-- it is under way, or it is not halted.
 abbrev pub MayStep : Setup → Working → Type 0
 MayStep setup w = busy_step_answer (is_inside w) (halted_at setup w.cpu w.private) ≡ Stepped

@@ -1,6 +1,6 @@
-//! Bells: a CPU at which no thread runs may park until another CPU sends it a thread, in place of polling
-//! its pending queue for ever. No clause mentions a bell: a parked CPU may go on at any time. `new` takes
-//! memory; the two `park` calls wait.
+//! Bells: remote wake-up of idle CPUs. A CPU on which no thread runs may park until another CPU
+//! sends it a thread, instead of polling its pending queue forever. No clause mentions a bell: a
+//! parked CPU may continue at any time. `new` takes memory; the two `park` calls wait.
 
 ghost use Rattle.std.specs.Prelude.{◌≡◌, IfOk};
 
@@ -9,8 +9,8 @@ use std::alloc::{AllocError, Global};
 use std::sync::Wait;
 use std::sync::atomic::{AtomicU64, Ordering};
 
-// The bell of one CPU: how often it was rung, and 1 while the CPU is parked or about to park, else 0. The
-// padding keeps two bells out of one pair of cache lines.
+// The bell of one CPU: how often it was rung, and 1 while the CPU is parked or about to park, else
+// 0. The padding keeps two bells out of one pair of cache lines.
 #[derive(Drop)]
 struct Bell {
     rings: AtomicU64,
@@ -22,14 +22,14 @@ struct Bell {
 #[derive(Drop)]
 pub(crate) struct Bells {
     bells: Vec<Bell>,
-    // How many CPUs are neither parked nor gone.
+    // How many CPUs are neither parked nor stopped.
     awake: AtomicU64,
-    // 1 once no CPU was awake: from then on no worker parks, so that each uses up its turns.
+    // 1 once no CPU was awake: after that no worker parks, so that each uses up its turns.
     quiet: AtomicU64,
 }
 
 impl Bells {
-    /// The bells of so many CPUs, none of which was rung.
+    /// Returns the bells of so many CPUs, none of which was rung.
     pub(crate) fn new(alloc: Global, count: usize) -> Result<Bells, AllocError> {
         let mut bells = Vec::with_capacity(alloc, count)?;
         for _ in 0..count {
@@ -46,7 +46,7 @@ impl Bells {
         })
     }
 
-    /// How often the CPU's bell was rung.
+    /// Returns how often the CPU's bell was rung.
     #[inline(always)]
     pub(crate) fn rings(&self, cpu: CpuId) -> u64 {
         match self.bells.get(usize::from(cpu.0)) {
@@ -55,7 +55,7 @@ impl Bells {
         }
     }
 
-    /// Rings the CPU's bell. A CPU that is parked there goes on, and counts as awake from here on.
+    /// Rings the CPU's bell. A CPU that is parked there is woken, and counts as awake from here on.
     pub(crate) fn ring(&self, cpu: CpuId) {
         if let Some(bell) = self.bells.get(usize::from(cpu.0)) {
             self.strike(bell);
@@ -79,7 +79,8 @@ impl Bells {
         }
     }
 
-    /// Parks the CPU of a native until its bell was rung more than `rung` times. It may go on sooner.
+    /// Parks the CPU of a native until its bell was rung more than `rung` times. The CPU may
+    /// continue sooner.
     pub(crate) fn park_native<R: Wait>(&self, rt: &R, cpu: CpuId, rung: u64) {
         if let Some(bell) = self.bells.get(usize::from(cpu.0)) {
             bell.parked.store(1, Ordering::SeqCst);
@@ -88,8 +89,8 @@ impl Bells {
         }
     }
 
-    /// Parks the CPU of a worker, as `park_native` does, unless no other CPU is awake: then nobody can ring,
-    /// and parking is turned off.
+    /// Parks the CPU of a worker, as `park_native` does, unless no other CPU is awake. Then no CPU
+    /// can ring its bell, and parking is turned off.
     pub(crate) fn park_worker<R: Wait>(&self, rt: &R, cpu: CpuId, rung: u64) {
         if self.quiet.load(Ordering::SeqCst) != 0 {
             return;
@@ -103,7 +104,8 @@ impl Bells {
         }
     }
 
-    // Sleeps unless the bell was rung since, and counts the CPU as awake again unless a ring has.
+    // Sleeps unless the bell was rung since, and counts the CPU as awake again unless a ring has
+    // done so.
     fn sleep<R: Wait>(&self, rt: &R, bell: &Bell, rung: u64) {
         if bell.rings.load(Ordering::SeqCst) == rung {
             bell.rings.park(rt, (rung & 0xffff_ffff) as u32);
@@ -113,7 +115,8 @@ impl Bells {
         }
     }
 
-    /// A worker has stopped. If it was the last that was awake, parking is turned off.
+    /// Counts a worker that has stopped as not awake. If it was the last that was awake, parking is
+    /// turned off.
     pub(crate) fn leave(&self) {
         if self.awake.fetch_sub(1, Ordering::SeqCst) == 1 {
             self.ring_all();

@@ -1,6 +1,6 @@
 //! Counting in threads: each of several CPUs adds 1 to one number, in critical sections at one
 //! table of shared words. `count_table` and `count_or_leave` take memory, start threads and wait
-//! for them. `number_in` and `number_left` do none of it.
+//! for them. `number_in` and `number_left` do none of this.
 
 ghost use Rattle.std.specs.Prelude.{◌≡◌};
 ghost use Rattle.cpu_workers.specs.Counts.{counting};
@@ -8,7 +8,7 @@ ghost use Rattle.cpu_workers.specs.Counts.{counting};
 mod counted;
 mod sections;
 mod tables;
-pub(crate) mod tasks;
+mod tasks;
 
 pub use crate::refusals::WorkerError as CountFault;
 pub use counted::{Counted, CountedAt, LockOfKind, number_in, number_left};
@@ -20,11 +20,11 @@ pub use tables::{NotCounted, count_or_leave, count_table};
 /// The lock that guards the number.
 pub const NUMBER: LockId = LockId::Buffer(BufId(0));
 
-/// The law of the locks of a count, with the types that its clauses name. A function that names such a
-/// lock names these too, since the check looks for them there.
+/// The law of the locks of a count, with the types that its clauses name. A function that names
+/// such a lock names these types too, since the check looks for them there.
 pub type CountLaws = PhantomData<(LockLaw<AddOne>, SectionOf<AddOne>)>;
 
-/// Adds 1 to a number, modulo 2^64, and answers the number before.
+/// Adds 1 to a number, modulo 2^64, and returns the number before.
 #[derive(Clone, Copy, Debug, PartialEq, Eq)]
 pub struct AddOne;
 

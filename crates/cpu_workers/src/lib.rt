@@ -1,11 +1,11 @@
-//! A worker thread for each CPU: the kernel of one step table in real threads, each CPU over its own
-//! seat at one table of shared words, under a gate.
+//! A worker thread for each CPU: the step table's kernel on real threads. Each CPU acts through its
+//! own seat at one table of shared words, under a gate.
 //!
-//! Natives run in threads of their own over one buffer for four messages:
+//! Native threads share one buffer for four messages:
 //!
 //! ```text
 //! let report = run_native(rt, alloc, &[4], natives)?;
-//! let left = report.items(BufId(0)); // what nobody received
+//! let left = report.items(BufId(0)); // what no thread received
 //!
 //! // in `run` of a native
 //! caller.send(rt, BufId(0), &Msg::one(7))?;

@@ -1,6 +1,7 @@
-//! The locks that a plan or a count may name. A lock is its words: those at a table ([`PlanWords`]), and those in
-//! an owned machine ([`OnLock`]). Which words a kind of lock has is said once, by [`by_kind`]. A further lock is an
-//! impl of each trait for its words, and an arm there. No call takes memory or waits.
+//! The locks that a plan or a count may name. A lock is its words: those at a table
+//! ([`PlanWords`]), and those in an owned machine ([`OnLock`]). Only [`by_kind`] says which words a
+//! kind of lock has. A further lock is an impl of each trait for its words, and an arm there. No
+//! call takes memory or waits.
 
 ghost use Rattle.std.specs.Prelude.{◌≡◌};
 ghost use Rattle.boot.specs.declared.locks.LockKind.TheVariants as kind;
@@ -12,9 +13,9 @@ use plain_machine::{LineWords, Plain};
 use table_machine::TableWords;
 pub use table_machine::{TicketWords, WaiterWords};
 
-/// Calls a function over the words of the lock of a kind. Its first type parameter is `Table` for the
-/// words at a table, which meet [`PlanWords`], or `Line` for those in an owned machine, which meet
-/// [`OnLock`](crate::OnLock). Further type parameters are as they stand.
+/// Calls a function over the words of the lock of a kind. Its first type parameter is `Table` for
+/// the words at a table, which meet [`PlanWords`]. It is `Line` for those in an owned machine,
+/// which meet [`OnLock`](crate::OnLock). Further type parameters are as written.
 ///
 /// ```text
 /// by_kind!(boot.lock(), run_words::<Table, G, R>(rt, alloc, boot, turns, gate))
@@ -43,7 +44,7 @@ pub trait PlanWords: TableWords {
     /// The lock's kind, as a plan names it.
     ghost lock_kind: { LockKind };
 
-    /// The lock's kind.
+    /// Returns the lock's kind.
     fn kind() -> LockKind
         ensures { result ≡ lock_kind };
 }
@@ -64,8 +65,8 @@ impl PlanWords for WaiterWords {
     }
 }
 
-/// Locks of one kind: their words in an owned machine, and an owned machine of such words, which each
-/// layer of a tower over it has as its own.
+/// Locks of one kind: their words in an owned machine, and an owned machine of such words. Each
+/// layer of a tower over that machine has it as its own machine.
 pub trait OnLock {
     ghost use Rattle.boot.specs.declared.locks.LockKind.{LockKind};
 

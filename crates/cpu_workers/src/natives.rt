@@ -1,26 +1,27 @@
-//! Natives: what runs in a thread of its own and calls the tower. A native may wait while it runs.
-//! `tasks` runs one in its thread, `seating` each over its seat, and `run` all at one table.
+//! Natives: code that runs in its own thread and calls the tower. A native may wait while it
+//! runs. `tasks` runs one in its thread, `seating` runs each over its seat, and `run` runs all at
+//! one table.
 
 ghost use Rattle.std.specs.Prelude.{◌≡◌, List, [], ℕ};
 
 mod run;
 mod seating;
-pub(crate) mod tasks;
+mod tasks;
 
 use crate::workers::{Caller, Hints};
 use layer_traits::{CallLayer, IpcLaw};
 pub use run::{NativeReport, run_native};
 use std::sync::Wait;
 
-/// What runs in a thread of its own, at a CPU of its own, and sends to buffers and receives from them
-/// through a caller.
+/// Code that runs in its own thread, on its own CPU, and sends to buffers and receives from
+/// them through a caller.
 pub trait Native {
     ghost use Rattle.cpu_workers.specs.Callers.{CallerView, IsSameCaller};
 
-    /// What it needs of the buffers, by their capacities.
+    /// What it requires of the buffers, in terms of their capacities.
     ghost Needs: { Self → List ℕ → Type 0 };
 
-    /// What it promises: of itself before it runs and after, and of the caller after all its calls.
+    /// What it promises: of itself before and after it runs, and of the caller after all its calls.
     ghost Kept: { Self → Self → CallerView → Type 0 };
 
     /// Runs to its end. The caller has made no call before.

@@ -1,29 +1,27 @@
-//! Tasks in threads of their own. What a thread left ([`Joined`]), and that one could not be started
-//! ([`NoThread`]), are made here alone: of a thread that was joined, and of a refused start. To start a
-//! thread takes its memory, and to join one waits for it.
+//! Tasks in their own threads. Only this module makes the evidence of what a thread left
+//! ([`Joined`]), from a thread that was joined. Only this module makes the evidence that a thread
+//! could not be started ([`NoThread`]), from a failed start. Starting a thread takes its memory,
+//! and joining one waits for it.
 
 ghost use Rattle.std.specs.Prelude.{◌≡◌, ◌≤◌, [], All, Err, IfOk, IfErr, IsOk, MatchResult, length, map, vec_capacity};
 ghost use Rattle.cpu_workers.specs.{Reports.Both, Tasks.task_of};
 
-mod known;
-
 use crossbeam_utils::sync::WaitGroup;
-use known::Known;
 use std::snapshot::Snapshot;
 use std::sync::Wait;
 use std::sync::atomic::{AtomicBool, Ordering};
 use std::thread::{Promise, PromisedHandle, Scope, SpawnError, Threads};
 use thiserror::Error;
 
-/// What runs in a thread of its own: a task of one of the kinds that `known` names.
-pub(crate) trait Task: Known + Sized {
+/// What runs in its own thread.
+pub(crate) trait Task: Sized {
     /// What it leaves.
     type Done;
 
     /// When it may run.
     ghost MayRun: { Self → Type 0 };
 
-    /// What it has done where it leaves this.
+    /// What it has done if it leaves this.
     ghost HasDone: { Self → Self.Done → Type 0 };
 
     /// Runs to its end. It may wait for other threads, so it need not return.
@@ -34,22 +32,22 @@ pub(crate) trait Task: Known + Sized {
         ensures { HasDone self result };
 }
 
-/// A thread could not be started. Nothing was run. It is made of a refused start alone.
+/// A thread could not be started, and nothing was run. It is made only of a failed start.
 #[derive(Clone, Copy, Debug, PartialEq, Eq, Error)]
 #[error("NoThread(5)")]
 pub struct NoThread {
     refused: (),
 }
 
-/// What threads of their own left, one element for each, in their order. It is evidence: it is made of
-/// joined threads alone.
+/// What the tasks' threads left, one element for each, in their order. It is evidence: it is made
+/// only of joined threads.
 #[derive(Drop)]
 pub struct Joined<D: Drop> {
     done: Vec<D>,
 }
 
 impl<D: Drop> Joined<D> {
-    /// What they left.
+    /// Returns what they left.
     pub fn into_done(self) -> Vec<D>
         ensures { result ≡ self.done }
     {
@@ -61,7 +59,7 @@ impl<D: Drop> Joined<D> {
 /// A task for which no thread could be started, as it was.
 #[derive(Drop)]
 pub(crate) struct NotStarted<T: Drop> {
-    /// The refusal.
+    /// The error.
     pub(crate) refused: NoThread,
     /// The task.
     pub(crate) task: T,
@@ -88,10 +86,11 @@ where
     child: PromisedHandle<Result<T::Done, T>, RunOf<T>>,
 }
 
-/// A task on its way: the thread that was started for it, or itself where none was.
+/// A task to be started: the thread that was started for it, or the task itself if none was.
 pub(crate) type Start<T> = Result<Started<T>, T>;
 
-/// The word by which threads go. It is for so many, and is given only where all were started.
+/// The word on which threads begin. It is for so many threads, and is given only if all were
+/// started.
 #[derive(Drop)]
 pub(crate) struct Word {
     given: AtomicBool,
@@ -99,7 +98,7 @@ pub(crate) struct Word {
 }
 
 impl Word {
-    /// The word for so many threads, which is not given.
+    /// Makes the word for so many threads, which is not given.
     pub(crate) fn new(count: usize) -> Word
         ensures { result.count.value ≡ count }
     {
@@ -123,8 +122,8 @@ impl Word {
     }
 }
 
-// What a thread does: it waits until no part of the group is left elsewhere, and runs its task if the
-// word was given.
+// Does what a thread does: it waits until no part of the group is left elsewhere, and runs its task
+// if the word was given.
 fn run_started<T: Task + Drop, R: Wait>(
     rt: &R,
     part: Option<WaitGroup>,
@@ -144,8 +143,8 @@ fn run_started<T: Task + Drop, R: Wait>(
     }
 }
 
-// The task of a thread to which the word was not given. There is no error to tell of one that has run, so it
-// would wait for that.
+// Returns the task of a thread to which the word was not given. The type has no error for a task
+// that has run; with such a task this function would wait forever.
 fn untouched<T: Task + Drop, R: Wait>(rt: &R, came: Result<T::Done, T>) -> T
 where
     T::Done: Drop,
@@ -158,12 +157,12 @@ where
     unreachable!()
 }
 
-/// Starts a thread for a task, with a part of the group. It waits there until no part is left elsewhere,
-/// and then runs its task if the word was given.
+/// Starts a thread for a task, with a part of the group. The thread waits until no part is left
+/// elsewhere, and then runs its task if the word was given.
 ///
 /// Requires: the task may run.
 ///
-/// Errors: where no thread could be started, the task as it was. Then no part of the group is left.
+/// Errors: if no thread could be started, the task as it was. Then no part of the group is left.
 pub(crate) fn start<'s, E, T: Task + Drop + Send + 's, R: Threads + Wait + Sync>(
     rt: &'s R,
     scope: &Scope<'s, E>,
@@ -201,8 +200,8 @@ where
     }
 }
 
-// What a thread left that was given the word. There is no error to tell of one that has not run, so it
-// would wait for that.
+// Joins a thread to which the word was given, and returns what it left. The type has no error for a
+// task that has not run; with such a task this function would wait forever.
 fn done_by<T: Task + Drop, R: Threads + Wait>(rt: &R, start: Start<T>) -> T::Done
 where
     T::Done: Drop,
@@ -220,7 +219,8 @@ where
     unreachable!()
 }
 
-/// Joins all threads, to which the word was given, and puts what they left into the list, which has room.
+/// Joins all threads, to which the word was given, and puts what they left into the list, which has
+/// room.
 ///
 /// Requires: all were started.
 pub(crate) fn join_all<T: Task + Drop, R: Threads + Wait>(
@@ -242,7 +242,7 @@ where
     Joined { done }
 }
 
-// The task of a start to which the word was not given.
+// Returns the task of a start to which the word was not given.
 fn back_from<T: Task + Drop, R: Threads + Wait>(rt: &R, start: Start<T>) -> T
 where
     T::Done: Drop,
@@ -254,8 +254,8 @@ where
     }
 }
 
-/// Joins all threads that were started, to which the word was not given, and puts all tasks as they were into
-/// the list, which has room.
+/// Joins all threads that were started, to which the word was not given. Puts all tasks as they
+/// were into the list, which has room.
 pub(crate) fn take_back<T: Task + Drop, R: Threads + Wait>(
     rt: &R,
     starts: Vec<Start<T>>,

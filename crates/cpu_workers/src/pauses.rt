@@ -1,21 +1,22 @@
-//! How long a worker looks before it lets other threads run. `pause` may wait for them.
+//! How often a worker polls before it yields its processor. `pause` may yield, and so wait for
+//! other threads.
 
 ghost use Rattle.std.specs.Prelude.{◌≡◌};
 ghost use Rattle.cpu_workers.specs.Idling.{spins_left};
 
 use std::thread;
 
-// How often a worker looks at a lock before it lets other threads run: with more threads than
-// processors, the one whose turn it is may not be running. So many looks take about fifty changes of
-// threads: whoever lets others run sooner lets a line grow of threads that do not run, and then each
-// section waits for a change of threads.
+// How often a worker polls a lock before it yields its processor. With more threads than
+// processors, the lock's owner may not be running. Polling so often takes about fifty context
+// switches. A worker that yields sooner lets a lock convoy form. The lock's queue then fills with
+// threads that are not running, and each section waits for a context switch.
 pub(crate) const SPINS: u16 = 10_000;
 
-// Lets other threads run where a worker's section is under way and no spins are left, and after each
-// turn that left its CPU idle: an idle CPU is nearly always inside its own queue's section, and where
-// its processor is taken there, every CPU that sends a thread home to it waits. Tells how many spins
-// are left: after the last one is one more, so that a worker whose look hits frees the lock before it
-// lets others run again.
+// Yields the processor if a worker's section is under way and no spins are left, and after each
+// turn that left its CPU idle. An idle CPU is nearly always inside the section of its pending
+// queue. If it is preempted there, every CPU that forwards a thread to it waits. Returns how many
+// spins are left. After a yield inside a section one spin is left, so that a worker whose poll
+// succeeds releases the lock before it yields again.
 pub(crate) fn pause(busy: bool, idle: bool, spins: u16) -> u16
     ensures { result ≡ spins_left busy spins }
 {

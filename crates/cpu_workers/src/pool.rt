@@ -1,5 +1,5 @@
-//! A thread for each task: all are started before any task runs, and all are joined. `run_all` takes
-//! memory, starts threads and waits for them.
+//! A thread for each task: all are started before any task runs, and all are joined. `run_all`
+//! takes memory, starts threads and waits for them.
 
 ghost use Rattle.std.specs.Prelude.{◌≡◌, ◌+◌, ◌≤◌, [], All, IfOk, IfErr, IsOk, IsNone, length, map, vec_capacity};
 ghost use Rattle.cpu_workers.specs.{Reports.Both, Tasks.task_of};
@@ -19,7 +19,7 @@ use std::thread::{Scope, Threads};
 pub(crate) struct Refused<T: Drop> {
     /// Why.
     pub(crate) fault: WorkerError,
-    /// All of it, as it was.
+    /// All tasks, as they were.
     pub(crate) back: Vec<T>,
 }
 
@@ -34,7 +34,7 @@ impl<T: Drop> From<Refused<T>> for WorkerError {
     }
 }
 
-// All memory that so many tasks' threads take, but for their own.
+// All memory that so many tasks' threads take, except the threads' own memory.
 #[derive(Drop)]
 struct Supplies<T: Task + Drop>
 where
@@ -46,7 +46,7 @@ where
     back: Vec<T>,
 }
 
-// A group of so many parts, and one more: while that one is there, no thread goes on.
+// Makes a group of so many parts, and one more: while that one is left, no thread continues.
 fn group_of(alloc: Global, count: usize) -> Result<Vec<WaitGroup>, AllocError>
     ensures { IfOk result (λ group. length group.items ≡ count + 1) }
 {
@@ -74,8 +74,8 @@ where
     })
 }
 
-// A start of each task, put into the list, which has room: a thread for each, until none could be
-// started for one, and that refusal.
+// Starts a thread for each task, until no thread could be started for one. Returns the list, which
+// has room, of starts and unstarted tasks, and that error.
 fn start_all<'s, E, T: Task + Drop + Send + 's, R: Threads + Wait + Sync>(
     rt: &'s R,
     scope: &Scope<'s, E>,
@@ -109,8 +109,9 @@ where
     (starts, refused)
 }
 
-// Runs each task in a thread of its own in this scope. All are started before any is given the word. Where
-// a thread could not be started, none is, and the tasks are as they were.
+// Runs each task in its own thread in this scope. All threads are started before the word is
+// given to any. If a thread could not be started, the word is given to none, and the tasks are as
+// they were.
 fn run_in<'s, E, T: Task + Drop + Send + 's, R: Threads + Wait + Sync>(
     rt: &'s R,
     scope: &Scope<'s, E>,
@@ -176,16 +177,16 @@ where
     )
 }
 
-/// Runs each task in a thread of its own, and gives what the threads left, in the tasks' order. All memory
-/// is taken before a thread is started, and all threads are started before any task runs; all are joined.
-/// A task runs in its thread alone.
+/// Runs each task in its own thread, and returns what the threads left, in the tasks' order. All
+/// memory is taken before a thread is started. All threads are started before any task runs, and
+/// all are joined. A task runs only in its thread.
 ///
 /// It waits for its threads, so it need not return.
 ///
 /// Requires: each task may run.
 ///
-/// Errors: `NoMemory` where memory was refused and `NoThread` where a thread could not be started, with
-/// the tasks as they were.
+/// Errors: `NoMemory` if an allocation failed, and `NoThread` if a thread could not be started,
+/// with the tasks as they were.
 pub(crate) fn run_all<T: Task + Drop + Send, R: Threads + Wait + Sync>(
     rt: &R,
     alloc: Global,

@@ -1,5 +1,5 @@
-//! Why no thread did anything. Each refusal carries evidence that something was refused. No call takes
-//! memory or waits.
+//! Why no thread did anything. Each error carries evidence that an allocation or the start of a
+//! thread failed. No call takes memory or waits.
 
 ghost use Rattle.std.specs.Prelude.{◌≡◌};
 ghost use Rattle.{event_log.specs.Refusals.no_memory, cpu_workers.specs.declared.refusals.WorkerError.TheVariants.NoMemory as LacksMemory};
@@ -12,7 +12,7 @@ use thiserror::Error;
 /// Why nothing was run.
 #[derive(Clone, Copy, Debug, PartialEq, Eq, Error)]
 pub enum WorkerError {
-    /// Memory was refused.
+    /// Out of memory.
     #[error("{0}")]
     NoMemory(NoMemory),
     /// A thread could not be started.

@@ -1,6 +1,7 @@
-//! What acts for a CPU at a table of shared words: a worker by the step table, a caller by native code.
-//! A caller stands on `calling`. A worker takes its `turns` under a gate, until it stops; `starting` runs
-//! many in threads, `seating` each over its seat, and `run` those of a plan, of which it makes a report.
+//! The actors of a CPU at a table of shared words: a worker follows the step table, a caller runs
+//! native code. A caller is built on `calling`. A worker takes its `turns` under a gate, until it
+//! stops. `starting` runs many workers in threads, `seating` runs each over its seat, and `run`
+//! runs those of a plan and makes a report of them.
 
 mod callers;
 mod calling;
@@ -12,7 +13,7 @@ pub(crate) mod report;
 pub(crate) mod run;
 mod seating;
 pub(crate) mod seats;
-pub(crate) mod starting;
+mod starting;
 mod stops;
 mod turns;
 mod worker;

@@ -1,4 +1,5 @@
--- What is printed is a history: its order is one of the traces, of which each holds the calls of its home's threads.
+-- What is printed is a history: its order is one of the traces, each of which holds the calls of
+-- its CPU's home threads.
 use Rattle.std.proofs.Common.{◌≡◌, ◌⊎◌, inl, inr, ℕ, zero, suc, ◌<◌, ◌==◌, Bool, true, false, List, [], ◌∷◌, length, map, set, Option, Some, None, option_map}
 use Rattle.std.proofs.{Common.{refl, ap, sym, ◌∙◌, subst, arith}, lemmas.{Bool.{cases_eq, eqb-true, eq-eqb}, Option.{get_or_from_slice_get, slice_get_within}}}
 use Rattle.std.{proofs.lemmas.Option.slice_get-get_or, specs.{Prelude.{Result, filter, slice_get, slice_index_or}, List.AllByRecursion}}
@@ -15,7 +16,7 @@ use Rattle.mctower.{specs.{Serve.RunsTrace, Texts.IsTextOf, Threads.{AlwaysOpen,
 
 -- One thread's entries in an order of traces.
 
--- a thread with no entry in a trace has none behind its first
+-- a thread with no entry in a trace has none after its first
 none_behind : (t : ℕ) (e : Entry) (rest : List Entry) → of_thread t (e ∷ rest) ≡ [] → of_thread t rest ≡ []
 none_behind t e rest none = go (e.thread.0 == t) refl
   where
@@ -174,7 +175,7 @@ program_at [] t = refl
 program_at (g ∷ gs) zero = refl
 program_at (g ∷ gs) (suc t) = program_at gs t
 
--- a thread at home on a CPU of the plan
+-- a thread whose home is a CPU of the plan
 home_is : (plan : BootPlan) (t : Tid) (c : CpuId) → home_of (homes_for plan) t ≡ Some c → (t.0 < length plan.tasks) × (plan_home_of plan t.0 ≡ c.0)
 home_is plan t c home =
     shown_at (λ (task : Task). cpu_at task.home) (λ k d. (k < length plan.tasks) × (plan_home_of plan k ≡ d.0)) plan.tasks

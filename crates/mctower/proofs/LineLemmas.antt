@@ -34,12 +34,12 @@ program_grown old sub new a b adds above below local = adds.shape local ∙ ap�
 
 -- ---- what clap makes of the words
 
--- clap gives the faults of the program's commands exactly
+-- clap returns the faults of the program's commands exactly
 exact : is_simple_and_free program ≡ true
 unfolding program clap_on_literals
 exact = refl
 
--- clap gives the matches of the program's commands
+-- clap returns the matches of the program's commands
 simple : is_simple program ≡ true
 unfolding program clap_on_literals
 simple = refl
@@ -53,7 +53,7 @@ parse_taken a words matches same has free = (
   (has (ap is_simple same ∙ simple)).1 ∙ ap (λ p. subcommand_of p words) same,
 )
 
--- a parse that fails has a fault that the rules find, memory aside
+-- a parse that fails has a fault that the rules find, unless memory ran out
 pub parse_refused : (a : App) (words : List Text) (error : Error) → a ≡ program
     → (is_simple_and_free a ≡ true → HasKind (fault_of a words) error) → HasKind (faults_of words) error
 unfolding faults_of

@@ -1,4 +1,5 @@
--- The order of a system's traces has a spelling: there are few entries, and their numbers are in range.
+-- The order of a system's traces has a spelling: there are few entries, and their numbers are in
+-- range.
 use Rattle.std.proofs.Common.{◌≡◌, ℕ, zero, suc, ◌+◌, ◌<◌, ◌≤◌, Bool, List, [], ◌∷◌, ◌++◌, length, set, Some, sym, ap, ◌∙◌, arith, inl, inr}
 use Rattle.std.proofs.lemmas.{Bool.cases_eq, List.{length-map, length-set, length_push, Sums.count_by-le-length}, Option.slice_get_within}
 use Rattle.std.specs.{Prelude.{slice_get, ◌==◌, ◌&&◌}, List.AllByRecursion}
@@ -32,7 +33,8 @@ value_allowed Close closed capacity items value allowed small = allowed
 value_allowed RecvClosed closed capacity items value allowed small = allowed.2
 value_allowed other closed capacity items value allowed small = small
 
--- the numbers of a run's entries are in range where there are few entries, and their messages are of their kinds
+-- the numbers of a legal history's entries are in range if there are few entries, and their
+-- messages are of their kinds
 pub run_entries : (caps : List ℕ) (earlier : List Entry) (contents : List (List Message)) (es : List Entry) (left : List (List Message))
     → length earlier + length es ≤ ENTRIES → IsRunFrom caps earlier contents es left → AllByRecursion (λ e. (e.cpu.0 < CPUS) × (e.thread.0 < THREADS)) es
     → AllByRecursion (λ e. IsMessage e.value) es → AllByRecursion (IsEntryOf (length caps)) es

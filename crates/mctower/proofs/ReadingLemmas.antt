@@ -16,7 +16,7 @@ read_more P xs i x within before here k d lt = elim (cases_lt k i) [
   | inr high ↦ let same : k ≡ i = omega arith in rw (same, get_or-set_same xs i x d within) here
 ]
 
--- what stands among the first so many
+-- what is among the first so many
 pub read_front : {X : Type 0} (xs : List X) (n k : ℕ) (x : X) → slice_get (take n xs) k ≡ Some x → (k < n) × (get_or xs k x ≡ x)
 read_front xs n k x at =
     let low : k < n = omega (arith, slice_get_within (take n xs) k x at, length-take n xs) in

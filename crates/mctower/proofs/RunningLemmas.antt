@@ -1,4 +1,4 @@
--- What a run of a plan answers, by what its parts answer.
+-- The result of a run of a plan, by the results of its parts.
 use Rattle.std.proofs.{Common.{◌≡◌, ℕ, true, false, List, [], length, map, replicate, sym, ap, ◌∙◌}, lemmas.{Bool.false≢true, List.{append-nil, length-map}}}
 use Rattle.std.specs.Prelude.{Result, Ok, Err, IsErrAnd}
 use Rattle.{event_log.{specs.{declared.ids.CpuId.CpuId, Buffers.empty_buffers}, proofs.{Streams.taken_put, RunLemmas.op_order_from}}, boot.specs.Plan.BootPlan}
@@ -10,7 +10,8 @@ use Rattle.mctower.specs.{Plans.{IsOpened, IsSystemOf, table_run}, Running.{AreC
 use Rattle.mctower.{specs.declared.run.run_faults.Fault.{Fault, TheVariants.{NoMemory, BadCpu, WriteFault}}, proofs.TabledLemmas.text_of_run}
 use Rattle.tracer.{specs.Sinks.Outs, proofs.{OrderLemmas.orders_agree, SinkLemmas.{all_out, outs_then}}}
 
--- a system that opens with a plan's buffers, homes, guests and room for entries is the plan's, and took no step
+-- a system that opens with a plan's buffers, homes, guests and room for entries is the plan's, and
+-- took no step
 pub plan_opened : (plan : BootPlan) (room : ℕ) (s : Shown) → s.caps ≡ plan.caps → s.homes ≡ homes_for plan → map (λ p. p.guests) s.cpus ≡ tables_for plan
     → map (λ p. p.limit) s.cpus ≡ replicate plan.cpus plan.trace → s.room ≡ room → s.taken ≡ 0 → IsOpened plan room s
 plan_opened plan room s caps homes guests limits room_is taken =
@@ -50,7 +51,7 @@ run_of IsStepwise plan steps first last of ran boots planned table sound told sa
   once = once;
 }
 
--- a text that was put out, and nothing more behind it
+-- a text that was written, and nothing after it
 pub all_put : (first whole : Output) (text : List ℕ) → first.failed ≡ false → IsPut first text → Outs whole.failed first.new whole.new []
     → first.old ≡ whole.old → IsPut whole text
 all_put first whole text live out more same =

@@ -14,14 +14,14 @@ one_piece text none =
     let lacks = split_parts 44 text None none (omega arith) in
     slice_split_none is_comma text (All-from_get_or (λ b. is_comma b ≡ false) text 0 (λ i low. ne_eqb _ _ (lacks i low)))
 
--- a text with a comma is an item and the pieces behind the comma
+-- a text with a comma is an item and the pieces after the comma
 pub first_piece : (text : List ℕ) (first after : Bor (List ℕ)) → IsSplitOnceResult 44 text (Some (first, after))
     → slice_split is_comma text ≡ first.now ∷ slice_split is_comma after.now
 first_piece text first after found =
     let at = split_once_first 44 text (Some (first, after)) found (omega arith) in
     rw (at.1, at.2) (slice_split_first is_comma text 0 at.0)
 
--- ---- a step that is a number alone
+-- ---- a step that is only a number
 
 no_digit : (at c : ℕ) → at < 48 → is_ascii_digit c ≡ true → (c == at) ≡ false
 no_digit at c low digit = grind (arith, nat_tests)
@@ -33,7 +33,7 @@ digits_lack at (c ∷ cs) low digits =
     let parts = and_parts (is_ascii_digit c) (all_ascii_digits cs) digits in
     (no_digit at c low parts.0, digits_lack at cs low parts.1)
 
--- digits and a comma behind them are the first piece
+-- digits followed by a comma are the first piece
 digits_cut : (text : List ℕ) (count : ℕ) → all_ascii_digits (take count text) ≡ true → count < length text → get_or text count 0 ≡ 44
     → slice_split is_comma text ≡ take count text ∷ slice_split is_comma (drop (count + 1) text)
 digits_cut text count digits inside comma =
@@ -76,7 +76,8 @@ two_digits text first second one first_is two second_is =
     let next = digit_small (get_or text 1 0) second two.1 second_is in
     digit_more text 1 first second (first_digit text first one.0 one.1 first_is) two.0 two.1 second_is (omega (arith, small, next))
 
--- digits at the front of a text, with no leading zero, are one step of the CPU whose number they are
+-- digits at the front of a text, with no leading zero, are one step of the CPU whose number they
+-- are
 pub front_item : (text : List ℕ) (count number : ℕ) → ReadsUpTo 255 text count number → 0 < count → count ≤ length text
     → (1 < count → get_or text 0 0 ≢ 48) → item_of (take count text) ≡ Some (record { cpu = record { 0 = number }; steps = 1 })
 front_item text count number read some inside lead =
@@ -93,7 +94,7 @@ front_item text count number read some inside lead =
     let within = read.within in
     rw (no_star front digits, number_to-spelled 255 front spelled (omega arith), value) refl
 
--- such a number and a comma behind it
+-- such a number, followed by a comma
 pub step_cut : (text : List ℕ) (count : ℕ) (cpu : CpuId) → all_ascii_digits (take count text) ≡ true
     → item_of (take count text) ≡ Some (record { cpu = cpu; steps = 1 }) → count < length text → get_or text count 0 ≡ 44
     → steps_in (slice_split is_comma text) ≡ option_map (λ more. cpu ∷ more) (steps_in (slice_split is_comma (drop (count + 1) text)))
@@ -101,6 +102,6 @@ step_cut text count cpu digits item inside comma = rw (digits_cut text count dig
 
 -- ---- the loop over the items
 
--- the steps that are read, and behind them those of the items to come
+-- the steps that are read, followed by those of the items still to be read
 abbrev pub after : List CpuId → Option (List CpuId) → Option (List CpuId)
 after done = option_map (λ more. done ++ more)

@@ -1,4 +1,4 @@
--- The text of the traces of a plan's CPUs has a spelling, and what writing it answers.
+-- The text of the traces of a plan's CPUs has a spelling, and the result of writing it.
 use Rattle.std.proofs.{Common.{◌≡◌, ℕ, ◌<◌, ◌≤◌, List, [], ◌∷◌, length, get_or, replicate, Some, refl, sym, ap, ◌∙◌, subst, arith}, lemmas.List.length-map}
 use Rattle.std.proofs.lemmas.{List.{Elements.{All-from_get_or, recursion_from_All}, Sums.sum_by-le}, Option.{get_or_from_slice_get, slice_get_within}}
 use Rattle.std.{proofs.lemmas.Option.slice_get-get_or, specs.{Prelude.{slice_get, All, Result, Ok, Err, IsErrAnd}, List.AllByRecursion}}
@@ -73,7 +73,7 @@ out_so caps traces left es out have is first values put = record {
   out = put;
 }
 
--- a refusal to gather is want of memory
+-- a failure to gather is that memory ran out
 pub gather_refused : (A : Type 0) (caps : List ℕ) (traces : List (List Entry)) (left : List (List Message)) (error : GatherError) (out : Output)
     → HaveText caps traces left → IsUntouched out → (error ≡ gathering.NoOrder → HasNoOrder traces)
     → Writes {A = A} caps traces left (Err (from_gather error)) out

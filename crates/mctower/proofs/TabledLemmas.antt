@@ -1,4 +1,4 @@
--- A run's system tells what the step table's system of its plan and its steps has.
+-- What a run's system reports is what the step table's system of its plan and its steps has.
 use Rattle.std.proofs.Common.{◌≡◌, ◌↔◌, ℕ, zero, suc, ◌+◌, ◌<◌, true, List, [], ◌∷◌, length, map, Some, refl, ap, sym, ◌∙◌, subst, arith}
 use Rattle.std.{proofs.lemmas.{List.{ext_get_or, length-map}, Option.slice_get_within}, specs.Prelude.{slice_get, slice_index_or}}
 use Rattle.event_log.specs.{declared.{entries.Entry.Entry, ids.{CpuId.CpuId, LockId.TheVariants.Buffer as AtBuffer}}, Traces.IsInterleaving}
@@ -60,7 +60,7 @@ module _ (IsStepwise : Type 0) (plan : BootPlan) (steps : List CpuId) (s : Shown
       let one = told.cpus setup planned k there.0 there.1 in
       rw (there.1, shows_at (λ (q : CpuShown). q.private) s.cpus k there.0 there.1, one.inside, one.halted) refl
 
-  -- and what is told of the state is told of the table's
+  -- and what is reported of the state is reported of the table's
   pub state_of_run : (state : State) → IsStateOf IsStepwise s state → IsStateOfRun plan steps state
   state_of_run state is = record {
     halted = is.halted

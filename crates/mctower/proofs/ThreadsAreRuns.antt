@@ -1,4 +1,5 @@
--- What workers print is what the step table's system prints under some schedule, and a run has one text.
+-- What workers print is what the step table's system prints under some schedule, and a run has one
+-- text.
 use Rattle.std.proofs.Common.{◌≡◌, ℕ, List, length, Option, Some, refl, ap, sym, ◌∙◌}
 use Rattle.{event_log.specs.declared.ids.LockId.TheVariants.Buffer as AtBuffer, boot.specs.Plan.BootPlan, cpu.specs.{Claims.buffer_at, Sound.setup_for}}
 use Rattle.{cpu.specs.Table.{Blocks.{Block, OfPending}, Steps.{Whole, block_at}}, cpu_workers.specs.Lawful.{IsLawfulReport, ShownReport, held_at, left_in}}

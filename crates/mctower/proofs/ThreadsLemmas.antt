@@ -1,4 +1,4 @@
--- What a run in threads answers, by what its parts answer.
+-- The result of a run in threads, by the results of its parts.
 use Rattle.std.proofs.{Common.{◌≡◌, ◌⊎◌, inl, inr, ℕ, ◌<◌, false, true, List, [], length, Some, refl, ap, ◌∙◌}, lemmas.Option.slice_get_within}
 use Rattle.std.specs.{Prelude.{Result, Ok, Err, Vec, slice_get, if◌then◌else◌}, Global.Global}
 use Rattle.event_log.{specs.{declared.entries.Entry.Entry, Buffers.empty_buffers}, proofs.{Streams.taken_put, RunLemmas.op_order_from, BoolLemmas.refuted}}
@@ -11,7 +11,7 @@ use Rattle.mctower.{specs.Threads.AlwaysOpen, proofs.{RunningLemmas.all_put, Thr
 use Rattle.cpu_workers.specs.Logs.{HasWords}
 use Rattle.mctower.specs.declared.run.run_faults.Fault.TheVariants as run
 
--- what is so for a plan that was read
+-- what holds for a plan that was read
 pub of_read : (Means : BootPlan → Result Done Refusal → Output → Type 0) (plan : BootPlan) (read : Result BootPlan BootError) (answer : Result Done Refusal)
     (out : Output) → read ≡ Ok plan → RefusedBy lacks_memory answer out ⊎ Means plan answer out → RefusedBy lacks_memory answer out
     ⊎ OfPlan Means read answer out
@@ -33,7 +33,7 @@ report_has plan turns r within lawful = record {
   runs = lawful.report.run;
 }
   where
-    -- what is told of the CPU whose trace this is
+    -- what is reported of the CPU whose trace this is
     report_at : (c : ℕ) (trace : List Entry) → slice_get r.traces c ≡ Some trace
         → (line : CpuReport) × (line.trace ≡ trace) × ReportsTrue (setup_for plan) (AlwaysOpen (cpu_at c)) turns (cpu_at c) line
     report_at c trace at =
@@ -56,7 +56,7 @@ has_worked turns plan r stops text words same is = record {
   is_run = printed_by_run plan turns r words.tells.report text is;
 }
 
--- the plan's workers have run, their text is out, and nothing more was put out behind it
+-- the plan's workers have run, their text is written, and nothing after it
 pub plan_worked : (turns : ℕ) (plan : BootPlan) (r : ShownReport) (stops : Vec Stop Global) (answer : Result Done Refusal) (first whole : Output)
     → HasWords plan AlwaysOpen turns r → stops.items ≡ r.stops
     → (first.failed ≡ false) × IsOut plan.caps r.traces (left_in (length plan.caps) r) first

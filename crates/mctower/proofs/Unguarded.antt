@@ -1,5 +1,5 @@
--- What is said under a condition is so under any that it follows from: so what is said of layers whose polls are single actions holds
--- without a condition where they are such.
+-- What holds under a condition holds under any that implies it. Therefore what holds of layers
+-- whose polls are single actions holds without a condition if they are such layers.
 use Rattle.std.{proofs.Common.{◌≡◌, List, refl}, specs.Prelude.{Result, Ok, Err, IsErrAnd}}
 use Rattle.{event_log.specs.declared.{ids.CpuId.CpuId, refusals.NoMemory.NoMemory as NoMemoryTold}, boot.specs.declared.refusals.BootError.BootError}
 use Rattle.{boot.specs.Plan.{BootPlan, Fails}, cpu.specs.{Claims.Shown, Systems.{Ran, WentOn, goes, took_none, stayed}}}
@@ -52,19 +52,19 @@ pub runs_alike : (If : Type 0) → If → (plan : BootPlan) (steps : List CpuId)
     → RunsPlan If plan steps result out → RunsTextOn NoCondition (Ok plan) steps result out
 runs_alike If here plan steps result out runs = runs_plan If NoCondition (λ always. here) plan steps result out runs
 
--- want of memory is no more than that, whatever the text
+-- out of memory is no more than that, whatever the text
 wants_memory : (read : Result BootPlan BootError) (steps : List CpuId) (evidence : NoMemoryTold) (out : Output) → IsUntouched out
     → RunsTextOn NoCondition read steps (Err (NoMemory evidence)) out
 wants_memory (Ok plan) steps evidence out untouched = untouched
 wants_memory (Err e) steps evidence out untouched = untouched
 
--- a text that gives no plan is run by nobody: it is refused, or memory was wanting
+-- a text that gives no plan is not run: it is rejected, or memory ran out
 pub unread_text : (read : Result BootPlan BootError) (steps : List CpuId) (e : BootError) (out : Output) → Fails e read → IsUntouched out
     → RunsTextOn NoCondition read steps (Err (from_boot e)) out
 unread_text read steps (refused.NoMemory evidence) out fails untouched = wants_memory read steps evidence out untouched
 unread_text read steps other out fails untouched = rw fails (refl, untouched)
 
--- a fault that is passed on is what is told
+-- a fault that is passed on is what is reported
 pub fault_told : (read : Result BootPlan BootError) (steps : List CpuId) (fault : Fault) (told : Result State Fault) (out : Output)
     → RunsTextOn NoCondition read steps (Err fault) out → IsErrAnd told (λ f. f ≡ fault) → RunsOverTower read steps told out
 fault_told read steps fault (Ok state) out runs is = absurd is

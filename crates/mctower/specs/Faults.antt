@@ -1,4 +1,4 @@
--- Why the words of a command line make no order, and the lines that tell it.
+-- Why the words of a command line make no order, and the lines that report it.
 use Rattle.std.specs.Prelude.{◌≡◌, ◌≢◌, ◌≤◌, ◌++◌, ◌||◌, All, Bool, false, true, List, [], ◌∷◌, Option, Some, Result, Ok, Err, IfSome, IsSomeAnd, codes}
 use Rattle.std.specs.{Prelude.{bytes_eq, decimal, if◌then◌else◌, length, unwrap_or}, List.find, Option.is_none}
 use Rattle.clap.specs.{Kinds.IsAmong, Walk.{Row, Text, first_of}, declared.error.kind.ErrorKind.{ErrorKind, TheVariants.{UnknownArgument, InvalidSubcommand}}}
@@ -52,7 +52,8 @@ value_at option rows = unwrap_or (first_of (option_name option) rows) []
 abbrev pub is_command : Text → Bool
 is_command name = bytes_eq name (codes "count") || (bytes_eq name (codes "run") || (bytes_eq name (codes "threads") || bytes_eq name (codes "check")))
 
--- this is wrong with a command, by its name and its values: no command has the name, or an option is the first with a value that it does not take
+-- This is wrong with a command, according to its name and its values. No command has the name, or
+-- an option is the first with a value that it does not take.
 abbrev pub IsFaultIn : Text × List Row → LineFault → Type 0
 IsFaultIn found NoCommand = is_command found.0 ≡ false
 IsFaultIn found (Value option shown) = (first_bad found ≡ Some option) × (shown.bytes ≡ shown_line (value_at option found.1))
@@ -62,8 +63,9 @@ IsFaultIn found fault = ⊥
 abbrev pub IsShown : Text → Type 0
 IsShown text = (length text ≤ 200) × All (λ byte. byte ≢ 10) text
 
--- This is wrong with the words: clap's rules find a fault of this kind, which is no request for help or for the version, and what clap names
--- may be shown in a line; or they find none, and no command is named, or the value of an option is the first that it does not take.
+-- This is wrong with the words. Either clap's rules find a fault of this kind, which is no request
+-- for help or the version, and what clap names fits in a line. Or they find none, and no command is
+-- named, or the value of an option is the first that it does not take.
 abbrev pub IsFault : List Text → LineFault → Type 0
 IsFault words (Words kind named) = IsAmong kind (faults_of words) × (kind ≢ DisplayHelp) × (kind ≢ DisplayVersion) × IsShown named.bytes
 IsFault words NoCommand = (is_taken words ≡ true) × IfSome (found_in words) (λ found. is_command found.0 ≡ false)
@@ -76,12 +78,12 @@ IsWhy words AsksHelp = IsAmong DisplayHelp (faults_of words)
 IsWhy words AsksVersion = IsAmong DisplayVersion (faults_of words)
 IsWhy words (Faulty fault) = IsFault words fault
 
--- why the words make no order is told, memory aside
+-- why the words make no order is reported, unless memory ran out
 abbrev pub TellsWhy : List Text → Result NoOrder NoMemory → Type 0
 TellsWhy words (Ok why) = IsWhy words why
 TellsWhy words (Err refused) = Unit {0}
 
--- a refusal of clap of this kind is told as what it is, memory aside
+-- an error of clap of this kind is reported as what it is, unless memory ran out
 abbrev pub TellsKind : ErrorKind → Result NoOrder NoMemory → Type 0
 TellsKind kind (Ok AsksHelp) = kind ≡ DisplayHelp
 TellsKind kind (Ok AsksVersion) = kind ≡ DisplayVersion
@@ -90,7 +92,7 @@ TellsKind kind (Ok (Faulty (Words told named))) =
 TellsKind kind (Ok (Faulty fault)) = ⊥
 TellsKind kind (Err refused) = Unit {0}
 
--- ---- the lines that tell it
+-- ---- the lines that report it
 
 -- what is wrong with the words, by the kind of the fault that clap's rules find
 abbrev pub kind_words : ErrorKind → Text
@@ -106,12 +108,13 @@ kind_words kind = codes "the words are no command line"
 abbrev pub fault_lines : List Text → Text → Text → Text
 fault_lines words what named = codes "error: " ++ (what ++ (named ++ (10 ∷ usage_of (topic_of words))))
 
--- a line with an option, its value and what is expected there, and two lines of usage of the words' command
+-- a line with an option, its value and what is expected there, and two lines of usage of the words'
+-- command
 abbrev pub value_lines : List Text → ValueOption → Text → Text
 value_lines words option value =
     codes "error: --" ++ (option_name option ++ (32 ∷ (value ++ (codes ": expected " ++ (expected_of option ++ (10 ∷ usage_of (topic_of words)))))))
 
--- the whole text that tells what is wrong with the words; what clap names is shown as it names it
+-- the whole text that reports what is wrong with the words; what clap names is shown as it names it
 abbrev pub fault_text : List Text → LineFault → Text
 fault_text words NotText = fault_lines words (codes "a word is not UTF-8 text") []
 fault_text words NoCommand = fault_lines words (codes "no command is given") []

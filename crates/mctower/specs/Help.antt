@@ -3,7 +3,7 @@ use Rattle.std.specs.Prelude.{ℕ, List, [], ◌∷◌, codes, bytes_eq, if◌th
 use Rattle.mctower.specs.declared.line.help_texts.TheConstants.{PROGRAM, COUNT, RUN, THREADS, CHECK, PROGRAM_USAGE, COUNT_USAGE, RUN_USAGE, THREADS_USAGE}
 use Rattle.mctower.specs.declared.line.help_texts.TheConstants.{CHECK_USAGE}
 
--- the command that the words name: the first word, or the one behind `help`
+-- the command that the words name: the first word, or the one after `help`
 abbrev pub topic_of : List (List ℕ) → List ℕ
 topic_of [] = []
 topic_of (word ∷ []) = word

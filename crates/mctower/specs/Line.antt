@@ -34,7 +34,7 @@ threads_app = with_rule (new_app (codes "threads")) (required_option (codes "tur
 abbrev pub check_app : App
 check_app = new_app (codes "check")
 
--- the words begin behind the program's name
+-- the words begin after the program's name
 abbrev pub without_binary_name : Shape → Shape
 without_binary_name s = record s { no_binary_name = true }
 
@@ -59,7 +59,8 @@ pub data Ghost : Type 0 where
   threads : ℕ → Ghost
   check : Ghost
 
--- the number that a text spells by clap's rules (a plus sign and leading zeros may stand there), in this range
+-- the number that a text spells by clap's rules (with or without a plus sign and leading zeros), in
+-- this range
 abbrev pub number_in : ℕ → ℕ → Text → Option ℕ
 number_in least most text = if is_unsigned_in least most text then Some (digits_value 10 (without_leading_plus text)) else None
 
@@ -67,12 +68,13 @@ number_in least most text = if is_unsigned_in least most text then Some (digits_
 abbrev pub option_number : ℕ → ℕ → Text → List Row → Option ℕ
 option_number least most name rows = option_and_then (number_in least most) (first_of name rows)
 
--- the lock that is asked for by its name: one with a grant word for each waiter, where none is named
+-- the lock that is asked for by its name: one with a grant word for each waiter, if none is named
 abbrev pub lock_asked : Option Text → Option LockKind
 lock_asked None = Some Grant
 lock_asked (Some name) = lock_named name
 
--- the order of the command `count` with these values: 1 to CPUS CPUs, 1 to MOST_TIMES sections for each, and the lock
+-- the order of the command `count` with these values: 1 to CPUS CPUs, 1 to MOST_TIMES sections for
+-- each, and the lock
 abbrev pub count_meant : List Row → Option Ghost
 count_meant rows = option_and_then (λ cpus. option_and_then (λ times. option_map (λ lock. count cpus times lock)
     (lock_asked (first_of (codes "lock") rows))) (option_number 1 MOST_TIMES (codes "times") rows)) (option_number 1 CPUS (codes "cpus") rows)
@@ -101,7 +103,8 @@ abbrev pub is_faultless : Kinds → Bool
 is_faultless [] = true
 is_faultless (kind ∷ kinds) = false
 
--- the kinds of fault that clap's rules find in the words, of which a refusal has one; a request for help or for the version counts as one
+-- The kinds of fault that clap's rules find in the words. An error has one of these kinds. A
+-- request for help or for the version counts as a fault.
 unfoldable pub faults_of : List Text → Kinds
 faults_of words = fault_of program words
 
@@ -113,25 +116,26 @@ is_taken words = is_faultless (faults_of words)
 abbrev pub order_of : List Text → Option Ghost
 order_of words = if is_taken words then option_and_then order_in (found_in words) else None
 
--- what an order stands for
+-- what an order means
 abbrev pub ghost_by : Order → Ghost
 ghost_by (Count cpus times lock) = count cpus times lock
 ghost_by (Run schedule) = run (option_map string_bytes schedule)
 ghost_by (Threads turns) = threads turns
 ghost_by Check = check
 
--- a reading gives the order that is meant, or refuses where none is meant, memory aside
+-- a reading gives the order that is meant, or fails if none is meant, unless memory ran out
 abbrev pub Reads : Option Ghost → Result Order LineError → Type 0
 Reads ghost_of (Ok order) = ghost_of ≡ Some (ghost_by order)
 Reads ghost_of (Err (NoMemory refused)) = Unit {0}
 Reads ghost_of (Err Refused) = ghost_of ≡ None
 
--- clap's parse takes the words exactly if its rules do, memory aside, and finds their command and values; else it names a fault of theirs
+-- Unless memory ran out, clap's parse accepts the words exactly if its rules do, and finds their
+-- command and values. Else it names a fault according to these rules.
 abbrev pub Parses : List Text → Result ArgMatches Error → Type 0
 Parses words (Ok matches) = (is_taken words ≡ true) × (subcommand_rows_of matches ≡ found_in words)
 Parses words (Err error) = HasKind (faults_of words) error
 
--- the same of which a refusal for memory alone is told from the others
+-- the same, with only the error for out of memory separated from the others
 abbrev pub Finds : List Text → Result ArgMatches LineError → Type 0
 Finds words (Ok matches) = (is_taken words ≡ true) × (subcommand_rows_of matches ≡ found_in words)
 Finds words (Err (NoMemory refused)) = Unit {0}

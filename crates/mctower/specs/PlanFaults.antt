@@ -1,4 +1,5 @@
--- The line that tells why a plan is refused: the refusal's name and number, and where in the plan it is.
+-- The line that reports why a plan is rejected: the error's name and number, and where in the plan
+-- it is.
 use Rattle.std.specs.Prelude.{ℕ, List, [], ◌∷◌, ◌++◌, codes, decimal}
 use Rattle.{event_log.specs.declared.ids.Tid.Tid, guest.specs.declared.refusals.GuestFault.{GuestFault, TheVariants.{UnknownWord, BadRegister, BadNumber}}}
 use Rattle.{guest.specs.declared.refusals.GuestFault.TheVariants.{BadTarget, TooLong, Empty}, boot.specs.Names.key_name}
@@ -13,7 +14,7 @@ fault_name BadTarget = codes "BadTarget(13)"
 fault_name TooLong = codes "TooLong(14)"
 fault_name Empty = codes "Empty(15)"
 
--- the line with this name, and a key behind it
+-- the line with this name, followed by a key
 abbrev pub key_line : List ℕ → PlanKey → List ℕ
 key_line name key = codes "error: " ++ (name ++ (key_name key ++ 10 ∷ []))
 

@@ -7,7 +7,8 @@ use Rattle.mctower.specs.declared.run.run_faults.Fault.TheVariants.{NoMemory, Bo
 use Rattle.boot.specs.declared.refusals.BootError.TheVariants as refused
 use Rattle.tracer.specs.declared.gathering.GatherError.TheVariants as gathering
 
--- the system has the CPUs, the threads with their programs, the buffers and the room of each trace that the plan says
+-- the system has the CPUs, the threads with their programs, the buffers and the room of each trace
+-- that the plan says
 pub record IsSystemOf (plan : BootPlan) (s : Shown) : Type 0 where
   pub caps : s.caps ≡ plan.caps
   pub homes : s.homes ≡ homes_for plan
@@ -15,11 +16,13 @@ pub record IsSystemOf (plan : BootPlan) (s : Shown) : Type 0 where
   pub cpus : length s.cpus ≡ plan.cpus
   pub limits : map (λ p. p.limit) s.cpus ≡ replicate plan.cpus plan.trace
 
--- the step table's system of a plan after these steps, one after the other from boot, with room for just these
+-- the step table's system of a plan after these steps, one after the other from boot, with room for
+-- exactly these
 abbrev pub table_run : BootPlan → List CpuId → Whole
 table_run plan steps = after_steps (setup_for plan) steps (whole_at_boot (setup_for plan) (length steps))
 
--- the system is the plan's before its first step, with room for so many steps: each home has its threads' guests, all at their start
+-- The system is the plan's before its first step, with room for so many steps. Each home CPU has
+-- its threads' guests, all at their start.
 pub record IsOpened (plan : BootPlan) (room : ℕ) (s : Shown) : Type 0 where
   pub system : IsSystemOf plan s
   pub guests : map (λ p. p.guests) s.cpus ≡ tables_for plan
@@ -34,7 +37,7 @@ pub record IsOfPlan (count : ℕ) (capacities : List ℕ) (s : Shown) : Type 0 w
   pub caps : capacities ≡ plan.caps
   pub system : IsSystemOf plan s
 
--- a refusal of a plan as the fault of a run
+-- the error of a rejected plan as the fault of a run
 abbrev pub from_boot : BootError → Fault
 from_boot (refused.NoMemory evidence) = NoMemory evidence
 from_boot refused.BadToml = Boot refused.BadToml
@@ -42,7 +45,7 @@ from_boot (refused.MissingKey key) = Boot (refused.MissingKey key)
 from_boot (refused.OutOfRange key) = Boot (refused.OutOfRange key)
 from_boot (refused.Guest t line fault) = Boot (refused.Guest t line fault)
 
--- a refusal to gather as the fault of a run
+-- a failure to gather as the fault of a run
 abbrev pub from_gather : GatherError → Fault
 from_gather (gathering.NoMemory evidence) = NoMemory evidence
 from_gather gathering.NoOrder = NoOrder

@@ -1,4 +1,4 @@
--- Refusals: which fault each stands for, the exit status, and the text that tells it.
+-- Errors: which fault each is the error of, the exit status, and the text that reports it.
 use Rattle.{std.specs.Prelude.{ℕ, List, codes}, clap.specs.Walk.Text, event_log.specs.Refusals.no_memory, mctower.specs.{Faults.fault_text, Output.IsTold}}
 use Rattle.mctower.specs.{Output.Output, PlanFaults.plan_line, declared.refusals.Refusal.{Refusal, TheVariants.{BadLine, NoMemory, BadCpu, NoThread, NoOrder}}}
 use Rattle.mctower.specs.declared.{refusals.Refusal.TheVariants.{ReadFault, WriteFault, BadSchedule, Plan}, run.run_faults.Fault.Fault}
@@ -7,15 +7,17 @@ use Rattle.mctower.specs.declared.run.run_faults.Fault.TheVariants as run
 use Rattle.mctower.specs.declared.line.schedules.StepsError.TheVariants as steps
 use Rattle.cpu_workers.specs.declared.refusals.WorkerError.TheVariants as worker
 
--- the refusal for want of memory, of which each value is evidence: it is made from the allocator's refusal alone
+-- the error for out of memory, of which each value is evidence: it is made only from the
+-- allocator's failure
 abbrev pub lacks_memory : Refusal
 lacks_memory = NoMemory no_memory
 
--- the refusal for want of a thread, which is evidence too: it is made from a refused start of a thread alone
+-- the error for a thread that could not be started, which is evidence too: it is made only from a
+-- failed start of a thread
 abbrev pub lacks_thread : Refusal
 lacks_thread = NoThread (record { refused = tt })
 
--- the refusal of a run that had this fault
+-- the error of a run that had this fault
 abbrev pub from_fault : Fault → Refusal
 from_fault (run.NoMemory refused) = NoMemory refused
 from_fault (run.Boot error) = Plan error
@@ -23,12 +25,12 @@ from_fault run.BadCpu = BadCpu
 from_fault run.NoOrder = NoOrder
 from_fault run.WriteFault = WriteFault
 
--- the refusal where no worker took a step, or did no section of a count
+-- the error if no worker took a step, or did no section of a count
 abbrev pub from_worker : WorkerError → Refusal
 from_worker (worker.NoMemory refused) = NoMemory refused
 from_worker (worker.NoThread refused) = NoThread refused
 
--- the refusal of a text that is no schedule
+-- the error of a text that is no schedule
 abbrev pub from_steps : StepsError → Refusal
 from_steps (steps.NoMemory refused) = NoMemory refused
 from_steps steps.BadSchedule = BadSchedule
@@ -45,8 +47,9 @@ status_of_refusal WriteFault = 1
 status_of_refusal BadSchedule = 2
 status_of_refusal (Plan error) = 1
 
--- what tells a refusal of these words is out and passed on: what is wrong with them where they are no command line; of a plan the line that tells
--- why it is refused; else a line with the refusal's name and number; where the sink failed, a beginning of it
+-- The report of an error for these words is written and flushed. It is what is wrong with them if
+-- they are no command line, and for a plan why it is rejected. Else it is a line with the error's
+-- name and number. If the sink failed, a prefix is written.
 abbrev pub PutsRefusal : List Text → Refusal → Output → Type 0
 PutsRefusal words (BadLine fault) out = IsTold out (fault_text words fault)
 PutsRefusal words (NoMemory refused) out = IsTold out (codes "error: NoMemory(1)\n")

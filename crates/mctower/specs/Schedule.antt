@@ -1,4 +1,4 @@
--- Schedules: which steps a text stands for.
+-- Schedules: the steps that a text denotes.
 use Rattle.std.specs.Prelude.{◌≡◌, ◌==◌, ◌++◌, ℕ, Bool, List, [], ◌∷◌, length, replicate, nat_lt, nat_le, Option, Some, None, Result, Ok, Err, Vec, option_map}
 use Rattle.std.specs.{Prelude.{option_and_then, if◌then◌else◌}, List.{after_first, before_first, position_or_len, slice_split}}
 use Rattle.{event_log.specs.{Digits.number_to, declared.ids.CpuId.CpuId}, mctower.specs.declared.line.schedules.{Item.Item, TheConstants.MOST_STEPS}}
@@ -42,16 +42,16 @@ steps_in (text ∷ texts) = option_and_then (λ item. option_map (λ more. repli
 abbrev pub if_few : List CpuId → Option (List CpuId)
 if_few steps = if nat_le (length steps) MOST_STEPS then Some steps else None
 
--- the steps that a text stands for: those of its items, cut at the commas
+-- the steps that a text denotes: those of its items, cut at the commas
 abbrev pub steps_of : List ℕ → Option (List CpuId)
 steps_of text = option_and_then if_few (steps_in (slice_split is_comma text))
 
--- the items still to be read, of the text behind the last comma
+-- the items still to be read, of the text after the last comma
 abbrev pub schedule_pieces : Option (List ℕ) → List (List ℕ)
 schedule_pieces None = []
 schedule_pieces (Some text) = slice_split is_comma text
 
--- a reading gives these steps, or refuses where there are none, memory aside
+-- a reading gives these steps, or fails if there are none, unless memory ran out
 abbrev pub ReadsSteps : {A : Type 0} → Option (List CpuId) → Result (Vec CpuId A) StepsError → Type 0
 ReadsSteps steps (Ok read) = steps ≡ Some read.items
 ReadsSteps steps (Err (NoMemory refused)) = Unit {0}

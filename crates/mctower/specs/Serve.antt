@@ -1,4 +1,5 @@
--- What serving an order gives: the answer, what is on standard output and on standard error, and whether the input is read.
+-- What serving an order gives: the result, what is on standard output and on standard error, and
+-- whether the input is read.
 use Rattle.std.specs.Prelude.{◌≡◌, ◌*◌, ◌++◌, ◌⊎◌, ℕ, Bool, true, false, List, [], ◌∷◌, Option, Some, None, Result, Ok, Err, Vec, IfSome, IsUtf8, codes}
 use Rattle.std.specs.{Prelude.{decimal, if◌then◌else◌, is_some, map, string_bytes, String}, Global.Global, declared.io.ErrorKind.ErrorKind}
 use Rattle.std.specs.declared.io.ErrorKind.TheVariants.{OutOfMemory, InvalidData}
@@ -18,7 +19,7 @@ use Rattle.tracer.specs.declared.verdicts.Verdict.TheVariants as verdict
 use Rattle.tracer.specs.Reasons as reasons
 use Rattle.tracer.specs.declared.checking.InputFault.TheVariants as unjudged
 
--- the exit status of an answer
+-- the exit status of a result
 abbrev pub status_of : Result Done Refusal → ℕ
 status_of (Ok (Exit status)) = status
 status_of (Ok (BothCounted plain table)) = 0
@@ -26,11 +27,12 @@ status_of (Ok (Ran state)) = 0
 status_of (Ok (Worked stops)) = 0
 status_of (Err refusal) = status_of_refusal refusal
 
--- the answer is this refusal, and nothing was written
+-- the result is this error, and nothing was written
 abbrev pub RefusedBy : Refusal → Result Done Refusal → Output → Type 0
 RefusedBy refusal answer out = (answer ≡ Err refusal) × IsUntouched out
 
--- the text is out and passed on, and the answer is that this is done; or the output failed, a beginning of the text is out, and that is the answer
+-- The text is written and flushed, and the result is that this is done. Or the output failed, a
+-- prefix of the text is written, and that is the result.
 abbrev pub Puts : Done → List ℕ → Result Done Refusal → Output → Type 0
 Puts done text answer out = (answer ≡ (if out.failed then Err WriteFault else Ok done)) × IsTold out text
 
@@ -40,17 +42,17 @@ Puts done text answer out = (answer ≡ (if out.failed then Err WriteFault else 
 abbrev pub IsInput : Option (List ℕ) → List ℕ → Type 0
 IsInput input text = IfSome input (λ known. text ≡ known)
 
--- what a failed read refuses: want of memory is told from a fault of the input
+-- the error of a failed read: out of memory is separated from a fault of the input
 abbrev pub kind_refused : ErrorKind → Refusal
 kind_refused OutOfMemory = lacks_memory
 kind_refused kind = ReadFault
 
--- what is refused where the words could not be had: one that is no text makes a bad command line
+-- the error if the words could not be had: one that is no text makes a bad command line
 abbrev pub words_refused : ErrorKind → Refusal
 words_refused InvalidData = BadLine NotText
 words_refused kind = kind_refused kind
 
--- what an input that was not judged refuses
+-- the error of an input that was not judged
 abbrev pub fault_refused : InputFault → Refusal
 fault_refused (unjudged.NoMemory refused) = lacks_memory
 fault_refused (unjudged.ReadFault kind) = kind_refused kind
@@ -66,11 +68,12 @@ ReadsAll input (Err refusal) = (kind : ErrorKind) × (refusal ≡ kind_refused k
 abbrev pub count_lines : ℕ → List ℕ
 count_lines number = codes "plain " ++ (decimal number ++ (codes "\ntable " ++ (decimal number ++ 10 ∷ [])))
 
--- so many CPUs counted, so many sections each, behind locks of this kind, on such a machine
+-- so many CPUs counted, so many sections each, under locks of this kind, on such a machine
 abbrev pub IsCount : ℕ → ℕ → LockKind → CountedAt → Counted → Type 0
 IsCount cpus times lock at counted = (counted.cpus ≡ cpus) × (counted.times ≡ times) × (counted.lock ≡ lock) × (counted.at ≡ at)
 
--- Both machines counted so, and their number is printed; what counted is what is done. Or the order is refused for want of memory or of a thread.
+-- Both machines counted so, and their number is printed; what counted is what is done. Or the order
+-- fails, because memory ran out or a thread could not be started.
 abbrev pub Counts : ℕ → ℕ → LockKind → Result Done Refusal → Output → Type 0
 Counts cpus times lock answer out = RefusedBy lacks_memory answer out
     ⊎ (RefusedBy lacks_thread answer out
@@ -79,14 +82,16 @@ Counts cpus times lock answer out = RefusedBy lacks_memory answer out
 
 -- ---- check
 
--- a verdict is printed: a yes with status 0, a no with the number of the line and the name of the reason with status 3
+-- a verdict is printed: a yes with status 0, or a no with the line's number and the reason's name
+-- with status 3
 abbrev pub PrintsVerdict : Verdict → Result Done Refusal → Output → Type 0
 PrintsVerdict verdict.Yes answer out = Puts (Exit 0) (codes "yes\n") answer out
 PrintsVerdict (verdict.No line reason) answer out =
     Puts (Exit 3) (codes "no " ++ (decimal line ++ (codes " " ++ (reasons.reason_name reason ++ codes "\n")))) answer out
 PrintsVerdict (verdict.NoMemory refused) answer out = RefusedBy lacks_memory answer out
 
--- the verdict on the input is printed, or the input was not read; after a yes the input is the trace text of a run, and of what it leaves
+-- The verdict on the input is printed, or the input was not read. After a yes the input is the
+-- trace text of a legal history, and of what that leaves.
 abbrev pub Checks : Option (List ℕ) → Result Done Refusal → Output → Type 0
 Checks input answer out = RefusedBy lacks_memory answer out
     ⊎ (RefusedBy ReadFault answer out
@@ -94,18 +99,19 @@ Checks input answer out = RefusedBy lacks_memory answer out
 
 -- ---- plans
 
--- what is meant for a plan is so; or the text is no plan, and that is told as its first fault
+-- what is meant for a plan holds; or the text is no plan, and its first fault is the error
 abbrev pub OfPlan : (BootPlan → Result Done Refusal → Output → Type 0) → Result BootPlan BootError → Result Done Refusal → Output → Type 0
 OfPlan Means (Ok plan) answer out = Means plan answer out
 OfPlan Means (Err error) answer out = RefusedBy (BadPlan error) answer out
 
--- it is so for the plan of these bytes; bytes that are no UTF-8 are no document; want of memory aside
+-- it holds for the plan of these bytes; bytes that are no UTF-8 are no document; unless memory ran
+-- out
 abbrev pub OfBytes : (BootPlan → Result Done Refusal → Output → Type 0) → List ℕ → Result Done Refusal → Output → Type 0
 OfBytes Means bytes answer out = RefusedBy lacks_memory answer out
     ⊎ (((¬ IsUtf8 bytes) × RefusedBy (BadPlan BadToml) answer out)
     ⊎ (IsUtf8 bytes × OfPlan Means (plan_of bytes) answer out))
 
--- it is so for the input's plan, or the input was not read
+-- it holds for the input's plan, or the input was not read
 abbrev pub OfInput : (BootPlan → Result Done Refusal → Output → Type 0) → Option (List ℕ) → Result Done Refusal → Output → Type 0
 OfInput Means input answer out = RefusedBy lacks_memory answer out
     ⊎ (RefusedBy ReadFault answer out
@@ -113,19 +119,21 @@ OfInput Means input answer out = RefusedBy lacks_memory answer out
 
 -- ---- run
 
--- what is to be told is the system's state, which is that of the step table's system; or the output failed
+-- the report is the system's state, which is that of the step table's system; or the output failed
 abbrev pub ReportsRun : BootPlan → List CpuId → Shown → Result Done Refusal → Bool → Type 0
 ReportsRun plan steps s answer false =
     (state : State) × IsStateOf NoCondition s state × IsStateOfRun plan steps state × (answer ≡ Ok (Ran state))
 ReportsRun plan steps s answer true = answer ≡ Err WriteFault
 
--- the text is out and passed on, and what is to be told is the system's state; or the output failed, and a beginning of the text is out
+-- the text is written and flushed, and the report is the system's state; or the output failed, and
+-- a prefix of the text is written
 abbrev pub PutsRun : BootPlan → List CpuId → Shown → List ℕ → Result Done Refusal → Output → Type 0
 PutsRun plan steps s text answer out = ReportsRun plan steps s answer out.failed × IsTold out text
 
--- the plan's system took the steps, by the step table, and its trace text is written; in the order that it tells, for each buffer what was put is
--- what was taken, in that order, and then what is left, and its calls stand as they took effect; it is the text of the step table's system of the
--- plan after these steps
+-- The plan's system took the steps, by the step table, and its trace text is written. In the text's
+-- order, for each buffer the values put are, in that order, the values taken, followed by what is
+-- left. Each buffer's calls are in the order in which they took effect. It is the text of the step
+-- table's system of the plan after these steps.
 pub record RunsTrace (plan : BootPlan) (steps : List CpuId) (answer : Result Done Refusal) (printed : Output) : Type 0 where
   pub cpus : AreCpus plan.cpus steps
   pub system : Shown
@@ -146,14 +154,15 @@ abbrev pub steps_asked : Option Text → Option (List CpuId)
 steps_asked None = Some []
 steps_asked (Some text) = steps_of text
 
--- the steps are run; what is no schedule is a bad command line, want of memory aside
+-- the steps are run; a text that is no schedule is a bad command line, unless memory ran out
 abbrev pub RunsAsked : Option (List CpuId) → Option (List ℕ) → Result Done Refusal → Output → Type 0
 RunsAsked (Some steps) input answer out = OfInput (ServesPlan steps) input answer out
 RunsAsked None input answer out = RefusedBy lacks_memory answer out ⊎ RefusedBy BadSchedule answer out
 
 -- ---- threads
 
--- the plan's workers have run, each for so many turns, and the trace text of what they left is written; what is to be told is their stops
+-- the plan's workers have run, each for so many turns, and the trace text of what they left is
+-- written; the report is their stops
 pub record WorksTrace (plan : BootPlan) (turns : ℕ) (answer : Result Done Refusal) (printed : Output) : Type 0 where
   pub stops : Vec Stop Global
   pub trace : List ℕ
@@ -174,8 +183,8 @@ version_line = codes "mctower " ++ (VERSION.now ++ 10 ∷ [])
 abbrev pub help_text : List Text → List ℕ
 help_text words = codes "mctower " ++ (VERSION.now ++ (10 ∷ help_of (topic_of words)))
 
--- Words that make no order: the help or the version that they ask for is out, with status 2; or they are refused for what is wrong with them, and
--- nothing is out; memory aside.
+-- Words that make no order: the help or the version that they ask for is written, with status 2. Or
+-- they are rejected for what is wrong with them, and nothing is written. Memory may run out.
 abbrev pub PutsAnswer : List Text → Result Done Refusal → Output → Type 0
 PutsAnswer words answer out = RefusedBy lacks_memory answer out
     ⊎ ((IsWhy words AsksHelp × Puts (Exit 2) (help_text words) answer out)
@@ -184,8 +193,9 @@ PutsAnswer words answer out = RefusedBy lacks_memory answer out
 
 -- ---- any order
 
--- Serving what the words mean: the answer, and what became of standard output. The bytes on standard
--- input are `input`, where they are known. Memory or the input may be wanting always.
+-- Serving what the words mean: the result, and what became of standard output. The bytes on
+-- standard input are `input`, if they are known. Memory may run out, or the input may fail, in any
+-- case.
 abbrev pub Serves : List Text → Option Ghost → Option (List ℕ) → Result Done Refusal → Output → Type 0
 Serves words None input answer out = PutsAnswer words answer out
 Serves words (Some (count cpus times lock)) input answer out = Counts cpus times lock answer out
@@ -195,8 +205,10 @@ Serves words (Some (threads turns)) input answer out = OfInput (WorksPlan turns)
 
 -- ---- standard error
 
--- what is on standard error and passed on, by the answer to these words: the state lines after a good run, why each worker stopped after one in
--- threads, nothing after a yes, a no, a count, the help or the version; else what tells the refusal
+-- What is written to standard error and flushed, by the result for these words:
+-- - after a successful run the state lines, and after one in threads why each worker stopped;
+-- - after a yes, a no, a count, the help or the version nothing;
+-- - else the report of the error.
 abbrev pub Reports : List Text → Result Done Refusal → Output → Type 0
 Reports words (Ok (Exit status)) out = IsUntouched out
 Reports words (Ok (BothCounted plain table)) out = IsUntouched out
@@ -204,21 +216,24 @@ Reports words (Ok (Ran state)) out = IsTold out (text_of_state state)
 Reports words (Ok (Worked stops)) out = IsTold out (stop_text stops.items)
 Reports words (Err refusal) out = PutsRefusal words refusal out
 
--- A command line is served: there is one answer by which the exit status, standard output and standard error are.
+-- A command line is served: one result determines the exit status, standard output and standard
+-- error.
 pub record Ends (words : List Text) (ghost_of : Option Ghost) (input : Option (List ℕ)) (status : ℕ) (out err : Output) : Type 0 where
   pub answer : Result Done Refusal
   pub ends : status ≡ status_of answer
   pub served : Serves words ghost_of input answer out
   pub told : Reports words answer err
 
--- The process ends: its words are served. Or they could not be had: nothing is out, and what tells that is on standard error.
+-- The process ends: its words are served. Or they could not be had: nothing is written to standard
+-- output, and standard error has the report of that.
 abbrev pub EndsProcess : {A B : Type 0} → Result (Vec (String A) B) Refusal → Option (List ℕ) → ℕ → Output → Output → Type 0
 EndsProcess (Ok words) input status out err = Ends (map string_bytes words.items) (order_of (map string_bytes words.items)) input status out err
 EndsProcess (Err refusal) input status out err = (status ≡ status_of_refusal refusal) × IsUntouched out × PutsRefusal [] refusal err
 
 -- ---- standard input
 
--- whether the input is read for these words: for a check, for a run whose schedule is one, and for a run in threads
+-- whether the input is read for these words: for a check, for a run, unless its schedule is
+-- invalid, and for a run in threads
 abbrev pub reads_input : Option Ghost → Bool
 reads_input None = false
 reads_input (Some (count cpus times lock)) = false

@@ -1,4 +1,4 @@
--- What the state lines tell of a system.
+-- What the state lines report of a system.
 use Rattle.std.specs.Prelude.{◌≡◌, ◌↔◌, ℕ, true, List, length, take, Some, slice_get}
 use Rattle.{layer_traits.specs.declared.calls.Place.Place, cpu.specs.{Calm.IsQuiet, Claims.{IsPlaceOf, Shown, listed}, Sound.IsSetupFor, Systems.halted_in}}
 use Rattle.{cpu.specs.{Systems.whole_of, Table.Setups.Setup, Observed.IsStill, Wakeups.Quiet.IsQuietTable}, mctower.specs.StateLines.state_text}
@@ -12,10 +12,11 @@ places_in state = take state.threads state.places
 abbrev pub text_of_state : State → List ℕ
 text_of_state state = state_text state.halted.items (places_in state) state.is_quiet
 
--- What is told of a system is so: why each CPU is halted, where each thread is, and that it is quiet exactly by the definition. Where its
--- machine does one action a step, it is told quiet exactly where the step table has it quiet, and then it is stuck: no live thread has a next call that its
--- buffer allows, nobody
--- owns the lock of a buffer, and nobody sleeps at one.
+-- What is reported of a system is true: why each CPU is halted, and where each thread is. It is
+-- reported quiet exactly if it is quiet (quiescent). If its machine does one action a step, it is
+-- reported quiet exactly if the step table has it quiet. Then no thread can make progress. No live
+-- thread has a next call that its buffer allows, no thread owns the lock of a buffer, and none
+-- sleeps at one.
 pub record IsStateOf (IsStepwise : Type 0) (s : Shown) (state : State) : Type 0 where
   pub halted : state.halted.items ≡ listed (λ c. halted_in (record { 0 = c }) s) 0 (length s.cpus)
   pub count : state.threads ≡ length s.homes

@@ -1,4 +1,5 @@
--- The state lines: for each CPU why it is halted, for each thread where it is, and whether the system is quiet.
+-- The state lines: for each CPU why it is halted, for each thread where it is, and whether the
+-- system is quiet.
 use Rattle.std.specs.{Prelude.{ℕ, Bool, List, [], ◌∷◌, ◌++◌, Option, Some, None, codes, decimal, if◌then◌else◌}, List.flat_map}
 use Rattle.layer_traits.specs.declared.{steps.Reason.{Reason, TheVariants.{AllEnded, TraceFull, StepsUsed}}, calls.Place.{Place, TheVariants.{Running, Ready}}}
 use Rattle.{layer_traits.specs.declared.calls.Place.TheVariants.{Pending, Hand, LockSleeper, WaitRecv, WaitSend, Ended}, tracer.specs.TraceText.text_line}
@@ -33,7 +34,7 @@ place_number (WaitRecv b) = Some b.0
 place_number (WaitSend b) = Some b.0
 place_number Ended = None
 
--- a name, and behind it a number in parentheses, where there is one
+-- a name, followed by a number in parentheses, if there is one
 abbrev pub with_number : List ℕ → Option ℕ → List ℕ
 with_number name None = name
 with_number name (Some n) = name ++ (codes "(" ++ (decimal n ++ codes ")"))
@@ -58,7 +59,8 @@ thread_pieces t place = codes "thread" ∷ decimal t ∷ place_word place ∷ []
 abbrev pub quiet_pieces : Bool → List (List ℕ)
 quiet_pieces quiet = codes "quiet" ∷ (if quiet then codes "yes" else codes "no") ∷ []
 
--- the state lines: a line for each CPU and one for each thread, each by rising number, and a last one on the whole system
+-- the state lines: a line for each CPU and one for each thread, each by rising number, and a last
+-- one on the whole system
 abbrev pub state_text : List (Option Reason) → List Place → Bool → List ℕ
 state_text halted places quiet =
     flat_map text_line (numbered halted_pieces 0 halted) ++ (flat_map text_line (numbered thread_pieces 0 places) ++ text_line (quiet_pieces quiet))

@@ -1,4 +1,5 @@
--- What a run tells, by the step table's system alone: the trace text of a plan after a schedule's steps, and its state lines.
+-- What a run reports, in terms of the step table's system only: a plan's trace text after a
+-- schedule's steps, and its state lines.
 use Rattle.std.specs.Prelude.{◌≡◌, ◌↔◌, ℕ, true, List, [], length, map, Option, Some, None, slice_get}
 use Rattle.event_log.specs.{declared.{entries.Entry.Entry, ids.{CpuId.CpuId, LockId.TheVariants.Buffer as AtBuffer}}, Actions.phase, Messages.Message}
 use Rattle.{boot.specs.Plan.BootPlan, layer_traits.specs.{declared.{calls.Place.Place, steps.Reason.Reason}, Polling.Plans.is_in_section}}
@@ -40,7 +41,8 @@ RunsHaveOneText = (plan : BootPlan) (steps : List CpuId) (one other : List ℕ) 
 abbrev pub NothingIsPrinted : Type 0
 NothingIsPrinted = (plan : BootPlan) (text : List ℕ) (told : IsTextOfRun plan [] text) → told.order ≡ []
 
--- this is told of that system: why each CPU is halted, where each thread stands, and whether it is quiet
+-- this is reported of that system: why each CPU is halted, where each thread is, and whether it is
+-- quiet
 pub record IsStateOfRun (plan : BootPlan) (steps : List CpuId) (state : State) : Type 0 where
   pub halted : state.halted.items ≡ listed (reason_at (setup_for plan) (table_run plan steps)) 0 plan.cpus
   pub many : length (places_in state) ≡ length plan.tasks

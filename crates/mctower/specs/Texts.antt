@@ -1,11 +1,13 @@
--- The trace text of the traces of a plan's CPUs and of what its buffers hold, and what writing it answers.
+-- The trace text of the traces of a plan's CPUs and of what its buffers hold, and the result of
+-- writing it.
 use Rattle.std.specs.{Prelude.{◌≡◌, ◌≤◌, ℕ, true, false, List, length, Some, slice_get, Result, Ok, Err}, List.AllByRecursion}
 use Rattle.{event_log.specs.{declared.entries.Entry.Entry, Messages.Message, Runs.IsRun, Traces.IsInterleaving}, tracer.specs.Gather.{IsOrder, TakesFirstReady}}
 use Rattle.{tracer.specs.TraceText.IsTraceText, boot.specs.Plan.{BootPlan, IsPlan}, cpu.specs.{Boots.homes_for, Cpus.IsOfHome}}
 use Rattle.mctower.specs.{declared.run.run_faults.Fault.{Fault, TheVariants.{NoMemory, Boot, BadCpu, NoOrder, WriteFault}}, Output.{IsPut, IsUntouched, Output}}
 
--- These traces have a text with what is left: they are one of each CPU of a plan with these capacities, each within its room and of threads at
--- home with its CPU; and they have an order that keeps each of them, is a run and ends in what is left.
+-- These traces have a text with what is left. They are one of each CPU of a plan with these
+-- capacities, each within its room and of its CPU's home threads. They have an order that keeps
+-- each of them, is a legal history and ends in what is left.
 pub record HaveText (caps : List ℕ) (traces : List (List Entry)) (left : List (List Message)) : Type 0 where
   pub plan : BootPlan
   pub within : IsPlan plan
@@ -17,8 +19,9 @@ pub record HaveText (caps : List ℕ) (traces : List (List Entry)) (left : List 
   pub keeps : IsInterleaving traces order
   pub runs : IsRun caps order left
 
--- the text is the trace text of these capacities, of these traces in the one order that takes the first trace that is ready, and of what is
--- left; and that order is a run that ends in what is left
+-- The text is the trace text of these capacities, of these traces in one order, and of what is
+-- left. The order always takes the first trace that is ready. It is a legal history that ends in
+-- what is left.
 pub record IsTextOf (caps : List ℕ) (traces : List (List Entry)) (left : List (List Message)) (text : List ℕ) : Type 0 where
   pub order : List Entry
   pub keeps : IsOrder traces order
@@ -26,13 +29,13 @@ pub record IsTextOf (caps : List ℕ) (traces : List (List Entry)) (left : List 
   pub run : IsRun caps order left
   pub spelled : IsTraceText text caps order left
 
--- this text is out, or where the sink failed a beginning of it
+-- this text is written, or a prefix of it if the sink failed
 pub record IsOut (caps : List ℕ) (traces : List (List Entry)) (left : List (List Message)) (printed : Output) : Type 0 where
   pub text : List ℕ
   pub is : IsTextOf caps traces left text
   pub out : IsPut printed text
 
--- what writing this text answers, by what became of the sink
+-- the result of writing this text, by what became of the sink
 abbrev pub Writes : {A : Type 0} → List ℕ → List (List Entry) → List (List Message) → Result A Fault → Output → Type 0
 Writes caps traces left (Ok _) out = (out.failed ≡ false) × IsOut caps traces left out
 Writes caps traces left (Err (NoMemory refused)) out = IsUntouched out

@@ -1,4 +1,5 @@
--- A run of a plan in threads: what its workers leave, and the lines that tell why each of them stopped.
+-- A run of a plan in threads: what its workers leave, and the lines that report why each of them
+-- stopped.
 use Rattle.std.specs.{Prelude.{◌≡◌, ℕ, List, codes, length}, List.flat_map}
 use Rattle.{event_log.specs.{declared.ids.CpuId.CpuId, Streams.IsFirstInFirstOut}, tracer.specs.{Gather.on_buffer, TraceText.{text_line, numbered}}}
 use Rattle.{boot.specs.Plan.BootPlan, cpu.specs.Sound.setup_for, cpu_workers.specs.declared.workers.{gates.Go.{Go, TheVariants.Pass}, stops.Stop.Stop}}
@@ -31,10 +32,12 @@ pub record IsPrintedByRun (plan : BootPlan) (text : List ℕ) : Type 0 where
   pub known : AreCpus plan.cpus schedule
   pub is : IsTextOfRun plan schedule text
 
--- The workers of a plan have run, each for so many turns: they left a lawful report, that of one words log, by whose actions their calls are
--- linearizable; these are its stops, and this is the text of the plan's capacities, of the report's traces and of what its buffers hold; in the order
--- that it tells, for each buffer what was put is what was taken, in that order, and then what is left; in it the calls of each buffer stand as they
--- took effect, by the frees of that log; and a run of the plan prints the same.
+-- The workers of a plan have run, each for so many turns. They left a lawful report, that of one
+-- words log, in the order of whose actions their calls are linearizable. These are its stops,
+-- and this is the text of the plan's capacities, of the report's traces and of what its buffers
+-- hold. In the text's order, for each buffer the values put are, in that order, the values taken,
+-- followed by what is left. The calls of each buffer are in the order in which they took effect, by
+-- the releases of that log. A run of the plan prints the same text.
 pub record IsWorkedPlan (plan : BootPlan) (turns : ℕ) (stops : List Stop) (text : List ℕ) : Type 0 where
   pub report : ShownReport
   pub words : HasWords plan AlwaysOpen turns report
@@ -44,7 +47,8 @@ pub record IsWorkedPlan (plan : BootPlan) (turns : ℕ) (stops : List Stop) (tex
   pub in_time : (b : ℕ) → on_buffer b is.order ≡ on_buffer b words.tells.report.report.order
   pub is_run : IsPrintedByRun plan text
 
--- what the workers of a plan print, a run of the plan prints under some schedule, however their actions came between one another
+-- what the workers of a plan print, a run of the plan prints under some schedule, however their
+-- actions interleave
 abbrev pub ThreadsPrintARun : Type 0
 ThreadsPrintARun = (plan : BootPlan) (turns : ℕ) (report : ShownReport) (text : List ℕ) → IsLawfulReport (setup_for plan) AlwaysOpen turns report
     → IsTextOf plan.caps report.traces (left_in (length plan.caps) report) text → IsPrintedByRun plan text

@@ -107,7 +107,7 @@ pub(crate) fn parse<'a>(alloc: Global, words: &'a [&'a str]) -> Result<ArgMatche
     program(alloc)?.try_get_matches_from(words)
 }
 
-// What clap makes of the words; its refusal for memory is told from the others.
+// What clap makes of the words; its error for out of memory is separated from the others.
 fn matches_in<'a>(alloc: Global, words: &'a [&'a str]) -> Result<ArgMatches<'a>, LineError>
     ensures { Finds (map (λ w. w.now) words.entry.now) result }
 {

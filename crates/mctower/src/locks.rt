@@ -1,5 +1,6 @@
-//! The locks that a plan or a count may name, each over an owned machine. Each is the same lock over words of
-//! its own, which say its kind ([`OnLock`]). The words of a kind are chosen by [`by_kind`] of `cpu_workers`.
+//! The locks that a plan or a count may name, each over an owned machine. Each is the same lock
+//! over different words, which determine its kind ([`OnLock`]). [`by_kind`] of `cpu_workers`
+//! chooses the words of a kind.
 //!
 //! A climb takes the memory that its work takes. No call waits.
 
@@ -18,9 +19,9 @@ use plain_machine::{LineWords, Plain};
 use spinlock::Ticket;
 use std::marker::PhantomData;
 
-/// Does what is to be done over the tower that stands on locks with these words.
+/// Does the work over the tower on locks with these words.
 ///
-/// Requires: it may be done over the tower of the kind of lock that has these words.
+/// Requires: the work may be done over the tower of the kind of lock that has these words.
 fn climb<K: LineWords + OnLock, V: OverTower>(work: &mut V) -> V::Done
     requires { V.IsReady work.old K.lock_kind }
     ensures { V.Does work.old result work.new }
@@ -29,9 +30,9 @@ fn climb<K: LineWords + OnLock, V: OverTower>(work: &mut V) -> V::Done
     over_sections::<V, Ticket<Plain<TowerEdit, K>>>(work)
 }
 
-/// Does what is to be done over the tower that stands on a lock of this kind.
+/// Does the work over the tower on a lock of this kind.
 ///
-/// Requires: it may be done over the tower of this kind of lock.
+/// Requires: the work may be done over the tower of this kind of lock.
 pub fn over_lock<V: OverTower>(lock: LockKind, work: &mut V) -> V::Done
     requires { V.IsReady work.old lock }
     ensures { V.Does work.old result work.new }

@@ -47,8 +47,8 @@ fn main(rt: HostRuntime) -> ExitCode {
     }
 }
 
-/// Why the words could not be had, by the kind of the error: one that is no UTF-8 text makes a bad
-/// command line.
+/// Returns why the words could not be had, by the kind of the error. A word that is no UTF-8 text
+/// makes a bad command line.
 fn words_refused(kind: io::ErrorKind) -> Refusal
     ensures { result ≡ words_refused kind }
 {
@@ -58,7 +58,7 @@ fn words_refused(kind: io::ErrorKind) -> Refusal
     }
 }
 
-/// The words of the command line.
+/// Returns the words of the command line.
 ///
 /// Errors: as the kind of the error says.
 fn words_after_the_name(rt: &HostRuntime) -> Result<Vec<String>, Refusal> {
@@ -71,7 +71,7 @@ fn words_after_the_name(rt: &HostRuntime) -> Result<Vec<String>, Refusal> {
     }
 }
 
-/// The words as texts.
+/// Returns the words as texts.
 fn texts_of<'w>(alloc: Global, words: &'w [String]) -> Result<Vec<&'w str>, NoMemory>
     ensures { IfOk result (λ texts. map (λ t. t.now) texts.items ≡ map string_bytes words.entry.now) }
 {
@@ -82,7 +82,7 @@ fn texts_of<'w>(alloc: Global, words: &'w [String]) -> Result<Vec<&'w str>, NoMe
     Ok(texts)
 }
 
-/// Tells a refusal of these words, and gives the exit status of the process.
+/// Reports the error of these words, and returns the exit status of the process.
 fn refused<E: Write>(err: &mut Sink<E>, words: &[&str], refusal: Refusal) -> ExitCode
     requires { has_failed err.old ≡ false }
     ensures status { exit_status result ≡ status_of_refusal refusal }
@@ -93,8 +93,8 @@ fn refused<E: Write>(err: &mut Sink<E>, words: &[&str], refusal: Refusal) -> Exi
     ExitCode::from(status)
 }
 
-/// Serves the words over these streams, as [`serve`] says, and gives the exit status of the process.
-/// Where the words could not be had, that refusal is told, and no input is read.
+/// Serves the words over these streams, as [`serve`] says, and returns the exit status of the
+/// process. If the words could not be had, that error is reported, and no input is read.
 ///
 /// Requires: neither `out` nor `err` has failed.
 fn serve_words<T: AllocGlobal + Threads + Wait + Sync, R: Read, O: Write, E: Write>(

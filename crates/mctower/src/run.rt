@@ -22,7 +22,7 @@ use std::alloc::{AllocError, Global};
 use std::io::Write;
 use tracer::Sink;
 
-/// The system of a plan after a run, by the lock that the plan names: `I` is the top of the layers
+/// The system of a plan after a run, by the lock that the plan names. `I` is the top of the layers
 /// over ticket locks, and `J` of those over locks with grant words.
 #[derive(Drop)]
 pub enum Ran<I: Owned + Drop, J: Owned + Drop>
@@ -36,12 +36,12 @@ where
     Grant(System<J>),
 }
 
-/// Lets the system of a plan take the steps of a schedule, and writes the trace text. Whatever lock
-/// the plan names, the system stands on the layers that `I` is the top of.
+/// Runs the system of a plan for the steps of a schedule, and writes the trace text. Whatever lock
+/// the plan names, the system runs over the layers that `I` is the top of.
 ///
 /// Requires: the sink has not failed. There are at most `MOST_STEPS` steps.
 ///
-/// Errors: those of [`run_text`] but `Boot`.
+/// Errors: those of [`run_text`] except `Boot`.
 pub(crate) fn run_boot<I: Owned + Drop, W: Write>(
     alloc: Global,
     boot: &Boot,
@@ -61,17 +61,20 @@ where
     Ok(system)
 }
 
-/// Reads a plan, lets its system take the steps of a schedule, and writes the trace text: the
-/// plan's capacities, the entries of all CPUs in one order, and what the buffers hold after the
-/// last step. The system stands on the lock that the plan names, and has room for as many steps as
-/// the schedule has. Gives the system, in the case of that lock.
+/// Reads a plan, runs its system for the steps of a schedule, and writes the trace text. The text
+/// has the plan's capacities, the entries of all CPUs in one order, and what the buffers hold after
+/// the last step. The system runs over the lock that the plan names, and has room for as many steps
+/// as the schedule has. Returns the system, in the case of that lock.
 ///
 /// Requires: the sink has not failed. There are at most `MOST_STEPS` steps.
 ///
-/// Errors: the first of these. `Boot` where the plan is refused, and why; `BadCpu` where the
-/// schedule names a CPU that the plan has not; `WriteFault` exactly where the sink failed, and then
-/// a beginning of the text is out. Before any other error nothing was written. `NoMemory` where an
-/// allocation was refused; `NoOrder` never comes, since the traces of a system have an order.
+/// Errors: the first of these. Before any error except `WriteFault` nothing was written.
+///
+/// - `Boot` if the plan is rejected, and why.
+/// - `BadCpu` if the schedule names a CPU that the plan does not have.
+/// - `WriteFault` exactly if the sink failed, and then a prefix of the text is out.
+/// - `NoMemory` if an allocation failed.
+/// - `NoOrder` never occurs, since the traces of a system have an order.
 pub fn run_text<I: Owned + Drop, J: Owned + Drop, W: Write>(
     alloc: Global,
     plan: &str,
@@ -89,7 +92,7 @@ where
     run_read(alloc, &boot, steps, sink)
 }
 
-// What `run_text` does once the plan is read.
+// Does what `run_text` does once the plan is read.
 fn run_read<I: Owned + Drop, J: Owned + Drop, W: Write>(
     alloc: Global,
     boot: &Boot,
@@ -117,8 +120,8 @@ where
 
 /// Writes the trace text of the system of a plan with these CPUs and capacities.
 ///
-/// Errors: `NoMemory` where an allocation was refused, and then nothing was written; `WriteFault`
-/// exactly where the sink failed.
+/// Errors: `NoMemory` if an allocation failed, and then nothing was written; `WriteFault` exactly
+/// if the sink failed.
 fn write_system<I: Owned + Drop, W: Write>(
     alloc: Global,
     cpus: u8,
@@ -139,9 +142,10 @@ where
     write_text(alloc, caps, &traces, &left, sink)
 }
 
-/// A slice of the trace of each CPU, which are so many, where it lies in the system.
+/// Returns a slice of the trace of each CPU, of which there are so many, at its place in the
+/// system.
 ///
-/// Errors: `AllocError` where an allocation was refused.
+/// Errors: `AllocError` if an allocation failed.
 fn traces<'s, I: Owned + Drop>(
     alloc: Global,
     cpus: u8,
@@ -159,7 +163,7 @@ where
     Ok(all)
 }
 
-/// What the buffers hold, which are so many, at most `BUFFERS`.
+/// Returns what the buffers hold, of which there are so many, at most `BUFFERS`.
 fn contents<I: Owned + Drop>(
     buffers: usize,
     system: &System<I>,

@@ -1,4 +1,4 @@
-//! Serving a command line: reads the order, does it, prints, and gives the exit status. `serve`
+//! Serving a command line: reads the order, does it, prints, and returns the exit status. `serve`
 //! takes memory. It may wait: for its worker threads, and for the streams.
 
 ghost use Rattle.std.specs.Prelude.{◌≡◌, ◌≤◌, ◌⊎◌, IfOk, None, false, true, length, map, option_map, string_bytes};
@@ -70,7 +70,7 @@ fn serve_count<O: Write, T: Threads + Wait + Sync>(
     put_out(out, &lines, Done::BothCounted(in_machine, in_table))
 }
 
-/// Prints a verdict: `yes`, or `no L Name(N)`. Gives the exit status.
+/// Prints a verdict: `yes`, or `no L Name(N)`. Returns the exit status.
 fn print_verdict<O: Write>(verdict: Verdict, out: &mut Sink<O>) -> Result<Done, Refusal>
     requires { has_failed out.old ≡ false }
     ensures prints_verdict { PrintsVerdict verdict result (between O.contents out.old out.new) }
@@ -95,7 +95,7 @@ fn print_verdict<O: Write>(verdict: Verdict, out: &mut Sink<O>) -> Result<Done, 
     }
 }
 
-/// Why an input was not judged, as a refusal.
+/// Returns the error of an input that was not judged.
 fn check_refused(fault: InputFault) -> Refusal
     ensures { result ≡ fault_refused fault }
 {
@@ -122,7 +122,7 @@ fn serve_check<R: Read, O: Write>(
     }
 }
 
-/// The steps that a schedule asks for; without one there is none.
+/// Returns the steps that a schedule asks for; without one there is none.
 fn steps_in(alloc: Global, schedule: Option<String>) -> Result<Vec<CpuId>, StepsError>
     ensures { ReadsSteps (steps_asked (option_map string_bytes schedule)) result }
 {
@@ -173,7 +173,7 @@ fn serve_run<R: Read, O: Write>(
     run_bytes(alloc, bytes.as_slice(), steps, out)
 }
 
-/// Answers words that make no order: puts out the help or the version that they ask for, or refuses
+/// Serves words that make no order: prints the help or the version that they ask for, or rejects
 /// them.
 ///
 /// Requires: the words make no order.
@@ -202,13 +202,14 @@ fn serve_no_order<O: Write>(
     }
 }
 
-/// A law: each text that `run` or `threads` prints is a history of the plan, by first-in first-out buffers and
-/// programs alone: one order of calls, in which each thread does those of its program, on its home.
+/// A law: each text that `run` or `threads` prints is a legal history of the plan. It is one order
+/// of calls of FIFO buffers, in which each thread makes the calls of its program, on its home CPU.
+/// The law mentions only buffers and programs, not the step table.
 pub fn texts_are_histories()
     ensures { TextsAreHistories }
 {}
 
-/// Does what the words order, and gives what is done. Nothing is told on standard error.
+/// Does what the words order, and returns what is done. It writes nothing to standard error.
 fn answer<R: Read, O: Write, T: Threads + Wait + Sync>(
     rt: &T,
     alloc: Global,
@@ -235,18 +236,22 @@ fn answer<R: Read, O: Write, T: Threads + Wait + Sync>(
     }
 }
 
-/// Serves one command line: `words` are those after the program's name.
+/// Serves one command line: `words` are those after the program's name. Returns the exit status:
 ///
-/// Gives the exit status: 0 for a good run or a yes of `check`; 1 for a refusal, with the line
-/// `error: Name(N)` on `err`; 2 for a bad command line, with what is wrong with it and the usage of
-/// its command on `err` (a bad schedule has the line of a refusal there) and nothing on `out`; 2 also
-/// for words that ask for help or the version, which is on `out`, and nothing on `err`; 3 for a no of
-/// `check`. After a good run the state lines of its system are on `err`, after one in threads why each
-/// worker stopped; else with 0 and 3 nothing is there. With both `out` is flushed. The input is read
-/// for a check, for a run whose schedule is one, and for a run in threads.
+/// - 0 for a successful run, for a count, or for a yes of `check`;
+/// - 1 for an error, with the line `error: Name(N)` on `err`;
+/// - 2 for a bad command line, with nothing on `out`. What is wrong with it and the usage of its
+///   command are on `err`; for a bad schedule it is the line of an error;
+/// - 2 also for words that ask for help or the version, which is on `out`, with nothing on `err`;
+/// - 3 for a no of `check`.
 ///
-/// A run goes over the tower of all layers, over the lock that its plan names, in one owned machine.
-/// One in threads waits for its workers, so it need not return.
+/// After a successful run the state lines of its system are on `err`. After one in threads `err`
+/// has why each worker stopped. Otherwise `err` is empty with 0 and 3. With both, `out` is flushed.
+/// The input is read for a check, for a run, unless its schedule is invalid, and for a run in
+/// threads.
+///
+/// A run uses the tower of all layers, over the lock that its plan names, in one owned machine. A
+/// run in threads waits for its workers, so it need not return.
 ///
 /// Requires: neither `out` nor `err` has failed.
 pub fn serve<R: Read, O: Write, E: Write, T: Threads + Wait + Sync>(

@@ -1,5 +1,5 @@
-//! What the program tells: lines and texts that go out. No call takes memory or waits, unless the
-//! sink's writer does.
+//! What the program reports: lines and texts that it writes. No call takes memory or waits, unless
+//! the sink's writer does.
 
 pub mod pieces;
 pub(crate) mod plan_lines;

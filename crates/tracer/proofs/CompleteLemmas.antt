@@ -24,7 +24,7 @@ complete_end : (s : TextProgress) (n : ℕ) → s.at ≡ wants.End → covers s.
     → verdict_from s n (lines_in (flat_map text_line (end_pieces ∷ []))) ≡ Yes
 complete_end s n at low = line_read s (record s { at = wants.Done }) n (codes "end") [] [] end_is_line (step_end s at low)
 
--- what is left of a buffer, and of those behind it
+-- what is left of a buffer, and of those after it
 first_of : (contents : List (List Message)) (b : ℕ) (x : List Message) (xs : List (List Message)) → drop b contents ≡ x ∷ xs → items_of contents b ≡ x
 first_of contents b x xs e = grind (arith, get_or-drop b contents 0, e)
 

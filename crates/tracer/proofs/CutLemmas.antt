@@ -4,7 +4,7 @@ use Rattle.std.proofs.lemmas.{Bool.{cases_lt}, List.{take-append-drop, take_rest
 use Rattle.std.proofs.lemmas.List.{length-take, length-drop, get_or_default, Folds.list_any_at, Splits.{slice_split_at, slice_split_none}}
 use Rattle.{std.specs.{Array.IsFirstChunk, List.{list_any, slice_split}}, tracer.specs.Lines.IsFirstLine}
 
--- before the first place the byte does not stand
+-- before the first place the byte does not occur
 before_first : (at : ℕ) (text : List ℕ) (i : ℕ) → i < length text → ((k : ℕ) → k < i → (get_or text k 0 == at) ≡ false)
     → (k d : ℕ) → k < length (take i text) → (get_or (take i text) k d == at) ≡ false
 before_first at text i lt before k d inside = grind (arith, length-take i text, get_or-take i text k d, get_or_default text k d 0, before k)

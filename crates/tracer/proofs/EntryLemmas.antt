@@ -1,4 +1,4 @@
--- Each line of a trace text is taken where it may stand, and a line that is taken is spelled so.
+-- Each line of a trace text is accepted at its place, and a line that is accepted is spelled so.
 use Rattle.std.proofs.Common.{◌-◌, ◌≡◌, ℕ, ◌<◌, ◌≤◌, ◌^◌, true, List, [], ◌∷◌, length, Ok, refl, subst, lit<, arith}
 use Rattle.std.{proofs.lemmas.Slice.Eq.bytes_eq-Decides, specs.{Prelude.{decimal, codes}, Str.bytes_eq}}
 use Rattle.event_log.specs.declared.{ids.TheConstants.{CPUS, THREADS, BUFFERS, ENTRIES}, entries.{Kind.{Kind, TheVariants.{Close, RecvClosed}}, Entry.Entry}}
@@ -9,7 +9,7 @@ use Rattle.tracer.{specs.Judging.{spells_value, value_in, is_of_version, entry_d
 use Rattle.tracer.proofs.{ReadLemmas.{decimal_is_number, piece_taken, digits_taken, ended_taken}, KnownLemmas.known_from, VersionLemmas.covers_first_one}
 use Rattle.tracer.proofs.{VersionLemmas.{covers_first, covers_second}, MessageLemmas.{message_again, spells_message_again, item_taken}}
 
--- behind the earlier entries, in a text of this version
+-- after the earlier entries, in a text of this version
 abbrev pub progress : Version → NextLine → List ℕ → List Entry → List (List Message) → TextProgress
 progress v at caps earlier contents = record {
   at = at;

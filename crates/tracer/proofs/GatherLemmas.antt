@@ -80,7 +80,8 @@ pub left_of_more : (traces : List (List Entry)) (k : ℕ) (e : Entry) (rest : Li
     → left_of (set traces k rest) + 1 ≡ left_of traces
 left_of_more traces k e rest at = grind (arith, add-one, sum_by-set, get_or_past)
 
--- what a gathering keeps: its tables, and that the entries taken go on as each order of the rests goes on
+-- the invariant of a gathering: its tables, and that each order of the rests, after the entries
+-- taken, is an order of the traces
 pub record Gathers (traces : List (List Entry)) (total : ℕ) (taken counts : List ℕ) (done : List Entry) : Type 0 where
   pub slots : length taken ≡ length traces
   pub table : length counts ≡ 256

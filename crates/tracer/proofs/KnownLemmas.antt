@@ -9,7 +9,7 @@ use Rattle.tracer.specs.{TraceText.IsValueOf, declared.verdicts.Reason.TheVarian
 use Rattle.tracer.{specs.Judging.{bumped, seen_behind, item_effect, entry_on, entry_among}, proofs.ReadLemmas.{or_range_taken, bind_ok, wanted_ok}}
 use Rattle.tracer.proofs.ReadLemmas.{same_ok}
 
--- what is known of buffer b, behind the earlier entries
+-- what is known of buffer b, after the earlier entries
 abbrev pub seen_of : List Entry → List (List Message) → ℕ → ℕ → Seen
 seen_of earlier contents b capacity = record {
   capacity = capacity;
@@ -50,7 +50,7 @@ slice_get-known earlier contents caps i lt =
     let inside : i < length (known_from earlier contents 0 caps) = omega (arith, length-known_from earlier contents 0 caps) in
     slice_get-get_or (known_from earlier contents 0 caps) i (fresh 0) inside ∙ ap Some (get_or-known earlier contents caps i (fresh 0) lt)
 
--- ---- the numbers behind one entry more
+-- ---- the numbers after one more entry
 
 bumped_by : (counts : Bool) (n : ℕ) → n + cond counts 1 0 ≡ bumped counts n
 bumped_by counts n = grind arith
@@ -118,7 +118,7 @@ pos_of : (earlier : List Entry) (contents : List (List Message)) (b capacity : �
 pos_of earlier contents b capacity Send = refl
 pos_of earlier contents b capacity other = refl
 
--- an entry that may come is taken
+-- an entry that may be next is accepted
 pub among_again : (caps : List ℕ) (earlier : List Entry) (contents : List (List Message)) (e : Entry) → length contents ≡ length caps
     → IsNext caps earlier contents e → entry_among e (known_from earlier contents 0 caps) ≡ Ok (known_from (earlier ++ e ∷ []) (after_entry contents e) 0 caps)
 unfolding entry_among entry_on
@@ -133,7 +133,7 @@ among_again caps earlier contents e long next =
 pub same_some : (x y : Seen) → Some x ≡ Some y → x ≡ y
 same_some x y e = cc
 
--- an entry that is taken may come
+-- an entry that is accepted may be next
 pub among_taken : (caps : List ℕ) (earlier : List Entry) (contents : List (List Message)) (e : Entry) (after : List Seen) → length contents ≡ length caps
     → IsValueOf e.kind e.value → entry_among e (known_from earlier contents 0 caps) ≡ Ok after → IsNext caps earlier contents e
     × (after ≡ known_from (earlier ++ e ∷ []) (after_entry contents e) 0 caps)

@@ -7,7 +7,7 @@ use Rattle.tracer.specs.{Pieces.{text_of, spaced, behind_comma}, Versions.versio
 use Rattle.tracer.{specs.TraceText.{cap_pieces, entry_pieces, left_pieces, end_pieces, spelling, lines_of}, proofs.SinkLemmas.{appends_then, outs_then}}
 use Rattle.{tracer.proofs.SinkLemmas.outs_before, event_log.specs.{Messages.{Message, first_word}, declared.entries.Entry.Entry}}
 
--- pieces with a space between each two: the first, and each other behind a space
+-- pieces with a space between each two: the first, and each other after a space
 pub join_spaced : (w : List ℕ) (ps : List (List ℕ)) → join_with_byte 32 (w ∷ ps) ≡ w ++ flat_map spaced ps
 join_spaced w [] = sym (append-nil w)
 join_spaced w (p ∷ ps) = ap (λ (t : List ℕ). w ++ 32 ∷ t) (join_spaced p ps)
@@ -21,12 +21,12 @@ pub line_text : (w : List ℕ) (ps : List Piece) (ms : List Message) → text_li
     ≡ w ++ (flat_map (λ p. spaced (text_of p)) ps ++ (flat_map (λ m. spaced (message_text m)) ms ++ 10 ∷ []))
 line_text w ps ms = grind (arith, join_spaced, flat_map-append, flat_map-map, append_assoc)
 
--- an entry's line with the line feed behind its last piece
+-- an entry's line with the line feed after its last piece
 pub line_end : (a b c d e f g : List ℕ) → 101 ∷ 32 ∷ (a ++ 32 ∷ (b ++ 32 ∷ (c ++ 32 ∷ (d ++ 32 ∷ (e ++ 32 ∷ (f ++ 32 ∷ (g ++ 10 ∷ [])))))))
     ≡ 101 ∷ 32 ∷ (a ++ 32 ∷ (b ++ 32 ∷ (c ++ 32 ∷ (d ++ 32 ∷ (e ++ 32 ∷ (f ++ 32 ∷ g)))))) ++ 10 ∷ []
 line_end a b c d e f g = simp append_assoc
 
--- a message as its first word, and each other behind a comma
+-- a message as its first word, and each other after a comma
 join_words : (w : ℕ) (ws : List ℕ) → join_with_byte 44 (map decimal (w ∷ ws)) ≡ decimal w ++ flat_map behind_comma ws
 join_words w [] = sym (append-nil (decimal w))
 join_words w (v ∷ ws) = ap (λ (t : List ℕ). decimal w ++ 44 ∷ t) (join_words v ws)

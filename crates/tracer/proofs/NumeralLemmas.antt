@@ -1,4 +1,5 @@
--- What a piece's number of 64 bits tells: whether the piece spells a number, and the number in a range.
+-- What a piece's number of 64 bits determines: whether the piece spells a number, and the number in
+-- a range.
 use Rattle.std.proofs.Common.{◌≡◌, ◌≢◌, ℕ, ◌^◌, ◌<◌, ◌≤◌, true, List, Some, None, Ok, Err, length, get_or, take, arith}
 use Rattle.std.{proofs.lemmas.{Bool.{cases_Bool, cases_lt}, List.{get_or-take, length-take}, Str.Parse.digits_value_short}, specs.Str.all_ascii_digits}
 use Rattle.{std.specs.Str.Parse.digits_value, event_log.{specs.Digits.{is_number, number_to}, proofs.DigitsLemmas.{ascii_digits, is_number-spelled}}}

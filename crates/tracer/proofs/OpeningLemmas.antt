@@ -1,4 +1,5 @@
--- The lines before the entries, and the last line: each is taken where it may stand, and what is taken is spelled so.
+-- The lines before the entries, and the last line: each is accepted at its place, and what is
+-- accepted is spelled so.
 use Rattle.std.proofs.Common.{◌≡◌, ℕ, ◌+◌, ◌<◌, ◌≤◌, ◌^◌, true, cond, List, [], ◌∷◌, ◌++◌, length, map, Ok, refl, lt-ltb, arith}
 use Rattle.std.{proofs.lemmas.{List.{length-map, map_push}, Slice.Eq.bytes_eq-Decides}, specs.{Prelude.{decimal, codes, nat_lt}}}
 use Rattle.std.specs.List.{join_with_byte}
@@ -80,7 +81,7 @@ step_count n s at some few = rw (at, pieces_again (codes "buffers") (decimal n �
 abbrev pub opened : Version → NextLine → List ℕ → TextProgress
 opened v at caps = record { at = at; version = v; lowest = One; buffers = map fresh caps; entries = 0 }
 
--- which line comes behind a capacity
+-- which line follows a capacity
 abbrev pub behind_cap : ℕ → ℕ → NextLine
 behind_cap known count = cond (nat_lt known count) (wants.Capacities count) wants.Entries
 

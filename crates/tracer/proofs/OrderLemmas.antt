@@ -54,7 +54,7 @@ ops_like : (a b order : List Entry) → SameCounts a b → HasOpOrderFrom a orde
 ops_like a b [] s ops = tt
 ops_like a b (e ∷ order) s ops = (ops.0 ∙ s.same (λ x. eqb x.buffer.0 e.buffer.0), ops_like (a ++ e ∷ []) (b ++ e ∷ []) order (counts_more a b e s) ops.1)
 
--- whether an entry may come next hangs on what its buffer holds, and on the counts of it
+-- whether an entry may be next depends on what its buffer holds, and on the counts of it
 next_alike : (caps : List ℕ) (a b : List Entry) (x y : List (List Message)) (e : Entry) → items_of x e.buffer.0 ≡ items_of y e.buffer.0
     → count_of a e.buffer.0 ≡ count_of b e.buffer.0 → ((kind : Kind) → count_of_kind a e.buffer.0 kind ≡ count_of_kind b e.buffer.0 kind)
     → IsNext caps a x e → IsNext caps b y e
@@ -91,15 +91,16 @@ after_swap : (contents : List (List Message)) (e f : Entry) → f.buffer.0 ≢ e
     → after_entry (after_entry contents f) e ≡ after_entry (after_entry contents e) f
 after_swap contents e f differ = grind (arith, items_other, set_comm)
 
--- entries of two buffers may change places: each buffer's own stand as before
+-- entries of two buffers may change places: the entries of each buffer stay in their order
 swapped_first : (b : ℕ) (e f : Entry) (es : List Entry) → f.buffer.0 ≢ e.buffer.0 → on_buffer b (f ∷ e ∷ es) ≡ on_buffer b (e ∷ f ∷ es)
 swapped_first b e f es differ = grind (arith, eqb-true)
 
--- an entry in front of entries that stand alike
+-- an entry in front of entries in the same order
 alike_behind : (b : ℕ) (e : Entry) (es fs : List Entry) → on_buffer b es ≡ on_buffer b fs → on_buffer b (e ∷ es) ≡ on_buffer b (e ∷ fs)
 alike_behind b e es fs alike = ap (λ (l : List Entry). if e.buffer.0 == b then e ∷ l else l) alike
 
--- the traces without e at the head of one have an order behind e; and where the order is a run, e and then that order are one, which ends in the same contents
+-- the traces without e at the head of one have an order after e; if the order is a legal history,
+-- so is e followed by that order, and it ends in the same contents
 pub record CameFirst (earlier : List Entry) (others : List (List Entry)) (order : List Entry) (e : Entry) : Type 0 where
   pub later : List Entry
   pub keeps : IsInterleaving others later
@@ -158,7 +159,7 @@ may_come_first earlier traces (f ∷ order) k e rest keeps ops at due =
       ]
     ]
 
--- behind a run of some order each other order is a run too
+-- if some order of the traces is a legal history from here, so is each other order
 run_alike_from : (caps : List ℕ) (earlier : List Entry) (contents : List (List Message)) (traces : List (List Entry)) (order other : List Entry)
     (left : List (List Message)) → IsInterleaving traces order → IsRunFrom caps earlier contents order left → IsInterleaving traces other
     → HasOpOrderFrom earlier other → IsRunFrom caps earlier contents other left
@@ -180,7 +181,7 @@ runs_have_order traces caps order left keeps run none = none order (keeps, op_or
 pub run_alike : (traces : List (List Entry)) → OrdersRunAlike traces
 run_alike traces caps order other left keeps run others = run_alike_from caps [] (empty_buffers caps) traces order other left keeps run others.0 others.1
 
--- in each other order the entries of each buffer stand as in this one
+-- in each other order the entries of each buffer are in the same order as in this one
 agree_from : (earlier : List Entry) (traces : List (List Entry)) (order other : List Entry) → IsInterleaving traces order → HasOpOrderFrom earlier order
     → IsInterleaving traces other → HasOpOrderFrom earlier other → (b : ℕ) → on_buffer b order ≡ on_buffer b other
 agree_from earlier traces [] [] keeps ops others others_ops b = refl

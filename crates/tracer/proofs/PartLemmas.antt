@@ -14,12 +14,12 @@ pub read_then : (old mid new : List ℕ) (from between now : Option (List ℕ)) 
 read_then old mid new from between now first second =
     record { more = first.more ++ second.more; read = grind (arith, append_assoc); grown = grind (arith, append_assoc) }
 
--- one read behind the first `at` bytes, which stay
+-- one read after the first `at` bytes, which stay
 pub read_more : (xs ys : List ℕ) (at n : ℕ) (mid now : Option (List ℕ)) → take at ys ≡ take at xs → Consumes mid now (take n (drop at ys))
     → IsReadBehind (take at xs) (take (at + n) ys) mid now
 read_more xs ys at n mid now front read = record { more = take n (drop at ys); read = read; grown = grind (arith, take-add at n ys) }
 
--- what stands behind the first `count` bytes is moved to the front
+-- the bytes after the first `count` are moved to the front
 pub bytes_moved : (xs : List ℕ) (filled count : ℕ) → count ≤ length (take filled xs) → filled ≤ length xs
     → take (filled - count) (paste xs 0 (drop count xs) (filled - count)) ≡ drop count (take filled xs)
 bytes_moved xs filled count few inside =

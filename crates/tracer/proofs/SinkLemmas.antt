@@ -6,7 +6,7 @@ use Rattle.tracer.specs.Sinks.{Outs}
 pub appends_then : (old mid new : Option (List ℕ)) (a b : List ℕ) → Appends old mid a → Appends mid new b → Appends old new (a ++ b)
 appends_then old mid new a b first second = grind (arith, append_assoc)
 
--- a text whose front is out, and then what comes of the next
+-- a text whose front is written, and then what becomes of the next
 pub outs_then : (failed : Bool) (old mid new : Option (List ℕ)) (a b : List ℕ) → Appends old mid a → Outs failed mid new b → Outs failed old new (a ++ b)
 outs_then failed old mid new a b first second = grind (arith, append_assoc)
 
@@ -18,7 +18,7 @@ outs_before failed old new a b e out = grind (arith, append_assoc)
 pub all_out : (failed : Bool) (old new : Option (List ℕ)) (a : List ℕ) → failed ≡ false → Outs failed old new a → Appends old new a
 all_out failed old new a e out = grind arith
 
--- a part that is all out, and then what comes of the next
+-- a part that is all written, and then what becomes of the next
 pub outs_on : (first failed : Bool) (old mid new : Option (List ℕ)) (a b : List ℕ) → false ≡ first → Outs first old mid a → Outs failed mid new b
     → Outs failed old new (a ++ b)
 outs_on first failed old mid new a b live here next = outs_then failed old mid new a b (all_out first old mid a (sym live) here) next

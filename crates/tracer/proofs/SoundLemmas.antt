@@ -51,18 +51,19 @@ sound_end v low buffers entries n others e = absurd (cc)
 
 -- ---- what is left
 
--- the lines are what is left from buffer b on, and the end of a text of a version that is no higher than the entries want
+-- the lines are what is left from buffer b on, and the end of a text of a version that is no higher
+-- than the entries need
 abbrev LeftText : Version → Version → ℕ → List (List Message) → List (List ℕ) → Type 0
 LeftText v low b contents lines = (join_with_byte 10 lines ≡ flat_map text_line (numbered left_pieces b (drop b contents) ++ end_pieces ∷ []))
     × AllByRecursion (AreItemsOf v) (drop b contents) × (covers low v ≡ true)
 
--- a line of what is left of buffer b, and the lines behind it
+-- a line of what is left of buffer b, and the lines after it
 left_text : (v low : Version) (b : ℕ) (contents : List (List Message)) (line next : List ℕ) (more : List (List ℕ)) → b < length contents
     → line_pieces line ≡ left_pieces b (items_of contents b) → AreItemsOf v (items_of contents b) → LeftText v low (b + 1) contents (next ∷ more)
     → LeftText v low b contents (line ∷ next ∷ more)
 left_text v low b contents line next more inside spelled small behind = grind (arith, drop_more, line_spelled)
 
--- where what is left of buffer b was taken, the lines behind it are what is left of the others
+-- if what is left of buffer b was accepted, the lines after it are what is left of the others
 sound_left : (v : Version) (b : ℕ) (caps : List ℕ) (earlier : List Entry) (contents : List (List Message)) (n : ℕ) (line next : List ℕ) (rest : List (List ℕ))
     (more : Bool) → nat_lt (b + 1) (length caps) ≡ more → length contents ≡ length caps → b < length caps
     → line_pieces line ≡ left_pieces b (items_of contents b) → AreItemsOf v (items_of contents b)
@@ -84,7 +85,7 @@ sound_left v b caps earlier contents n line next (third ∷ others) true is long
 
 -- ---- the entries
 
--- what it says that the lines behind the capacities get yes
+-- what it implies that the lines after the capacities get yes
 pub record Judged (v : Version) (caps : List ℕ) (earlier : List Entry) (contents : List (List Message)) (lines : List (List ℕ)) (es : List Entry)
     (left : List (List Message)) : Type 0 where
   pub run : IsRunFrom caps earlier contents es left
@@ -98,7 +99,7 @@ pub record Judged (v : Version) (caps : List ℕ) (earlier : List Entry) (conten
 abbrev IsJudged : Version → List ℕ → List Entry → List (List Message) → List (List ℕ) → Type 0
 IsJudged v caps earlier contents lines = (es : List Entry) × (left : List (List Message)) × Judged v caps earlier contents lines es left
 
--- an entry, and the lines behind it
+-- an entry, and the lines after it
 judged_more : (v : Version) (caps : List ℕ) (earlier : List Entry) (contents : List (List Message)) (line next : List ℕ) (more : List (List ℕ)) (e : Entry)
     → line_pieces line ≡ entry_pieces e → IsEntryOf (length caps) e → IsNext caps earlier contents e
     → IsJudged v caps (earlier ++ e ∷ []) (after_entry contents e) (next ∷ more) → IsJudged v caps earlier contents (line ∷ next ∷ more)

@@ -46,7 +46,7 @@ decimal_lacks at n lt small = digits_lack at (decimal n) lt (decimal-spelled n s
 pub digits_alone : (at : ℕ) (cs : List ℕ) → at < 48 → all_ascii_digits cs ≡ true → slice_split (λ b. b == at) cs ≡ cs ∷ []
 digits_alone at cs lt digits = split_alone at cs (digits_lack at cs lt digits)
 
--- digits and a space behind them are the first piece
+-- digits and a space after them are the first piece
 pub digits_cut : (text : List ℕ) (count : ℕ) → all_ascii_digits (take count text) ≡ true → count < length text → get_or text count 0 ≡ 32
     → line_pieces text ≡ take count text ∷ line_pieces (drop (count + 1) text)
 digits_cut text count digits inside space =

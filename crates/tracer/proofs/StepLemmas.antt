@@ -1,4 +1,5 @@
--- Each line behind the capacities is taken where it may stand, and a line that is taken is spelled so.
+-- Each line after the capacities is accepted at its place, and a line that is accepted is spelled
+-- so.
 use Rattle.std.proofs.lemmas.Bool.{cases_Bool}
 use Rattle.std.proofs.Common.{◌==◌, ◌≡◌, ℕ, ◌+◌, ◌<◌, ◌≤◌, ◌^◌, true, false, cond, List, [], ◌∷◌, ◌++◌, length, get_or, map, Option, Some, None, Ok}
 use Rattle.std.proofs.{Common.{refl, sym, ap, ◌∙◌, inl, inr, ◌⊎◌, lt-ltb, ltb-true, lit<, arith}, lemmas.{List.length_push, Slice.Eq.bytes_eq-Decides}}
@@ -112,7 +113,7 @@ left_digits_again : (v : Version) (b : ℕ) (items : List Message) → b < 2 ^ 6
 unfolding left_digits
 left_digits_again v b items lt small = rw (is_value_again b lt, (items_again v items small).0) refl
 
--- which line comes behind what is left of buffer b
+-- which line follows what is left of buffer b
 abbrev pub behind_left : ℕ → List ℕ → NextLine
 behind_left b caps = cond (nat_lt (b + 1) (length caps)) (wants.Contents (b + 1)) wants.End
 
@@ -179,7 +180,7 @@ entries_left : (ps : List (List ℕ)) (s : TextProgress) → entries_line (codes
 unfolding entries_line
 entries_left ps s = refl
 
--- what is left of the first buffer, behind the entries
+-- what is left of the first buffer, after the entries
 pub step_first_left : (v : Version) (caps : List ℕ) (earlier : List Entry) (contents : List (List Message)) → 0 < length caps
     → AreItemsOf v (items_of contents 0)
     → step (progress v wants.Entries caps earlier contents) (join_with_byte 32 (left_pieces 0 (items_of contents 0)))
@@ -197,7 +198,7 @@ step_left v b caps earlier contents lt few small =
     rw (pieces_again (codes "left") (decimal b ∷ map message_text (items_of contents b)) (left_is_line v b (items_of contents b) (omega arith) small))
     (left_line_again v (wants.Contents b) b caps earlier contents lt (omega arith) small)
 
--- a line behind the entries is an entry, or what is left of the first buffer
+-- a line after the entries is an entry, or what is left of the first buffer
 pub entries_taken : (v : Version) (caps : List ℕ) (earlier : List Entry) (contents : List (List Message)) (ps : List (List ℕ)) (after : TextProgress)
     → length contents ≡ length caps → entries_line ps (progress v wants.Entries caps earlier contents) ≡ Ok after
     → ((e : Entry) × EntryTaken v caps earlier contents ps after e) ⊎ LeftTaken v 0 caps earlier contents ps after

@@ -15,19 +15,20 @@ entries_in places = map (λ place. place.now) places
 abbrev pub IsOrder : List (List Entry) → List Entry → Type 0
 IsOrder traces order = IsInterleaving traces order × HasOpOrder order
 
--- behind the earlier entries, the first entry of a trace has the op number that its buffer waits for
+-- after the earlier entries, the first entry of a trace has the op number that its buffer expects
 abbrev pub IsFrontReady : List Entry → List Entry → Type 0
 IsFrontReady earlier [] = ⊥
 IsFrontReady earlier (e ∷ _) = e.op ≡ count_of earlier e.buffer.0
 
--- behind the earlier entries, each entry is taken from the first trace that is ready
+-- after the earlier entries, each entry is taken from the first trace that is ready
 abbrev pub TakesFirstReadyFrom : List Entry → List (List Entry) → List Entry → Type 0
 TakesFirstReadyFrom earlier traces [] = Unit {0}
 TakesFirstReadyFrom earlier traces (e ∷ es) = (k : ℕ) × (rest : List Entry) × (slice_get traces k ≡ Some (e ∷ rest))
     × IsFrontReady earlier (e ∷ rest) × ((j : ℕ) → j < k → ¬ IsFrontReady earlier (slice_index_or traces j []))
     × TakesFirstReadyFrom (earlier ++ e ∷ []) (slice_set traces k rest) es
 
--- at each point the order takes the first trace whose next entry has the op number that its buffer waits for
+-- at each point the order takes the first trace whose next entry has the op number that its buffer
+-- expects
 abbrev pub TakesFirstReady : List (List Entry) → List Entry → Type 0
 TakesFirstReady traces order = TakesFirstReadyFrom [] traces order
 
@@ -35,12 +36,13 @@ TakesFirstReady traces order = TakesFirstReadyFrom [] traces order
 abbrev pub HasNoOrder : List (List Entry) → Type 0
 HasNoOrder traces = (order : List Entry) → ¬ IsOrder traces order
 
--- traces of which some order is a run have an order
+-- traces of which some order is a legal history have an order
 abbrev pub RunsHaveOrder : List (List Entry) → Type 0
 RunsHaveOrder traces = (caps : List ℕ) (order : List Entry) (left : List (List Message)) → IsInterleaving traces order → IsRun caps order left
     → ¬ HasNoOrder traces
 
--- where some order of the traces is a run, each order of them is a run that ends in the same contents
+-- if some order of the traces is a legal history, each order of them is one that ends in the same
+-- contents
 abbrev pub OrdersRunAlike : List (List Entry) → Type 0
 OrdersRunAlike traces = (caps : List ℕ) (order other : List Entry) (left : List (List Message)) → IsInterleaving traces order
     → IsRun caps order left → IsOrder traces other → IsRun caps other left
@@ -49,15 +51,16 @@ OrdersRunAlike traces = (caps : List ℕ) (order other : List Entry) (left : Lis
 abbrev pub on_buffer : ℕ → List Entry → List Entry
 on_buffer b es = filter (λ e. e.buffer.0 == b) es
 
--- in any two orders of the traces the entries of each buffer stand in the same order
+-- in any two orders of the traces the entries of each buffer are in the same order
 abbrev pub OrdersAgreeByBuffer : List (List Entry) → Type 0
 OrdersAgreeByBuffer traces = (one other : List Entry) → IsOrder traces one → IsOrder traces other → (b : ℕ) → on_buffer b one ≡ on_buffer b other
 
--- the entry of trace k that comes next, where so many of each trace are taken
+-- the next entry of trace k, if so many of each trace are taken
 abbrev pub next_entry : List (List Entry) → List ℕ → ℕ → Option Entry
 next_entry traces taken k = slice_get (slice_index_or traces k []) (slice_index taken k)
 
--- the entry has the op number that its buffer waits for, by the number of entries taken of each buffer
+-- the entry has the op number that its buffer expects, according to the number of entries taken of
+-- each buffer
 abbrev pub IsNextOp : List ℕ → Entry → Type 0
 IsNextOp counts e = e.op ≡ slice_index counts e.buffer.0
 

@@ -10,12 +10,12 @@ use Rattle.tracer.specs.{declared.versions.Version.{Version, TheVariants.{One, T
 use Rattle.tracer.specs.Versions.{version_of_entry}
 use Rattle.tracer.specs.declared.next_lines.NextLine.TheVariants as wants
 
--- what a function returned, seen by view, is what reading gives
+-- what a function returned, under its view, is what reading gives
 abbrev pub GivesOrReason : {X Y : Type 0} → (X → Y) → Result X Reason → Result Y Reason → Type 0
 GivesOrReason view (Ok x) read = read ≡ Ok (view x)
 GivesOrReason view (Err reason) read = read ≡ Err reason
 
--- goes on where the test holds, else gives the reason
+-- continues if the test holds, else returns the reason
 abbrev pub or_reason : {A : Type 0} → Bool → Reason → Result A Reason → Result A Reason
 or_reason test reason next = if test then next else Err reason
 
@@ -25,12 +25,12 @@ or_reason test reason next = if test then next else Err reason
 abbrev pub line_pieces : List ℕ → List (List ℕ)
 line_pieces line = slice_split (λ b. b == 32) line
 
--- a piece, and the pieces behind it
+-- a piece, and the pieces after it
 abbrev pub piece_at : List (List ℕ) → Result (List ℕ × List (List ℕ)) Reason
 piece_at [] = Err Spelling
 piece_at (piece ∷ rest) = Ok (piece, rest)
 
--- this word, and the pieces behind it
+-- this word, and the pieces after it
 abbrev pub expected_word : List ℕ → List (List ℕ) → Result (List (List ℕ)) Reason
 expected_word word pieces = piece_at pieces >>= λ p. or_reason (bytes_eq p.0 word) Spelling (Ok p.1)
 
@@ -38,7 +38,7 @@ expected_word word pieces = piece_at pieces >>= λ p. or_reason (bytes_eq p.0 wo
 abbrev pub digits_at : List (List ℕ) → Result (List ℕ × List (List ℕ)) Reason
 digits_at pieces = piece_at pieces >>= λ p. or_reason (is_number p.0) Spelling (Ok p)
 
--- nothing stands behind
+-- no piece is left
 abbrev pub ended : List (List ℕ) → Result (Unit {0}) Reason
 ended [] = Ok tt
 ended (piece ∷ rest) = Err Spelling
@@ -51,7 +51,7 @@ or_range (Some x) = Ok x
 abbrev pub in_range : ℕ → List ℕ → Result ℕ Reason
 in_range most digits = or_range (number_to most digits)
 
--- this very number
+-- exactly this number
 abbrev pub is_just : Option ℕ → ℕ → Bool
 is_just None n = false
 is_just (Some m) n = m == n
@@ -74,8 +74,9 @@ pub record Seen : Type 0 where
 abbrev pub fresh : ℕ → Seen
 fresh capacity = record { capacity = capacity; items = []; ops = 0; sends = 0; recvs = 0; closes = 0 }
 
--- where the text stands: which line may come, the version of the head, the lowest version that can spell the entries so far, the buffers,
--- and how many entries there were
+-- The judge's progress in the text: which line is expected, and the version of the head. Further it
+-- has the lowest version that can spell the entries so far, the buffers, and how many entries there
+-- were.
 pub record TextProgress : Type 0 where
   pub at : NextLine
   pub version : Version
@@ -96,11 +97,11 @@ next_pos Sends seen = seen.sends
 next_pos Receives seen = seen.recvs
 next_pos Closes seen = seen.closes
 
--- one more, where it counts
+-- one more, if it counts
 abbrev pub bumped : Bool → ℕ → ℕ
 bumped counts n = if counts then n + 1 else n
 
--- a buffer behind an effect of this group that leaves these items
+-- a buffer after an effect of this group that leaves these items
 abbrev pub seen_behind : Group → List Message → Seen → Seen
 seen_behind group items seen = record {
   capacity = seen.capacity;
@@ -111,11 +112,11 @@ seen_behind group items seen = record {
   closes = bumped (same_group group Closes) seen.closes;
 }
 
--- a send wants room
+-- a send needs room
 abbrev pub put_if_room : Message → ℕ → List Message → Result (List Message) Reason
 put_if_room value capacity items = or_reason (nat_lt (length items) capacity) Full (Ok (items ++ value ∷ []))
 
--- a receive wants its value as the first item
+-- a receive needs its value as the first item
 abbrev pub take_first : Message → List Message → Result (List Message) Reason
 take_first value [] = Err EmptyTake
 take_first value (first ∷ rest) = or_reason (bytes_eq first value) WrongValue (Ok rest)
@@ -182,7 +183,8 @@ numbers_in (word ∷ words) = in_range 18446744073709551615 word >>= λ n. numbe
 abbrev pub message_in : List ℕ → Result Message Reason
 message_in piece = or_reason (nat_le (length (comma_parts piece)) WORDS) Range (numbers_in (comma_parts piece))
 
--- whether the piece spells a message of an effect of this kind, of any size, as a text of this version may
+-- whether the piece spells a message of an effect of this kind, of any size, as a text of this
+-- version may
 abbrev pub spells_value : Version → Kind → List ℕ → Bool
 spells_value v kind piece = if has_message kind then spells_message v piece else bytes_eq piece (codes "-")
 
@@ -203,11 +205,12 @@ entry_digits pieces = digits_at pieces
     >>= λ pos. ended pos.1
     >>= λ _. Ok (record { cpu = cpu.0; thread = thread.0; kind = kind; buffer = buffer.0; value = value.0; op = op.0; pos = pos.0 })
 
--- whether a text of this version may have such an entry, and its message is spelled as its kind wants
+-- whether a text of this version may have such an entry, and its message is spelled as its kind
+-- requires
 abbrev pub is_of_version : Version → Digits → Bool
 is_of_version v digits = covers v (version_of_kind digits.kind) && spells_value v digits.kind digits.value
 
--- its numbers, where each is in its range
+-- its numbers, if each is in its range
 unfoldable pub entry_in : Digits → Result Entry Reason
 entry_in digits = in_range (CPUS - 1) digits.cpu
     >>= λ cpu. in_range (THREADS - 1) digits.thread
@@ -272,7 +275,7 @@ left_digits v b pieces = expected_word (codes "left") pieces
     >>= λ rest. piece_at rest
     >>= λ number. or_reason (is_value number.0 b) Spelling (or_reason (list_all (spells_message v) number.1) Spelling (Ok number.1))
 
--- this very message
+-- exactly this message
 abbrev pub is_same : Result Message Reason → Message → Bool
 is_same (Err reason) m = false
 is_same (Ok read) m = bytes_eq read m
@@ -317,11 +320,11 @@ version_in line = if bytes_eq line (codes "mctower-trace 1")
 unfoldable pub head_line : List ℕ → TextProgress → Result TextProgress Reason
 head_line line s = version_in line >>= λ v. Ok (record s { at = wants.Count; version = v })
 
--- the last line, where no lower version than the head's can spell the text
+-- the last line, if no lower version than the head's can spell the text
 unfoldable pub end_line : List ℕ → TextProgress → Result TextProgress Reason
 end_line line s = or_reason (bytes_eq line (codes "end")) Spelling (or_reason (covers s.lowest s.version) OfVersion (Ok (record s { at = wants.Done })))
 
--- a line after which the text may go on, or the first reason against it
+-- a line after which the text may continue, or the first reason against it
 abbrev pub judged_line : NextLine → TextProgress → List ℕ → Result TextProgress Reason
 judged_line wants.Head s line = head_line line s
 judged_line wants.Count s line = count_line (line_pieces line) s
@@ -349,7 +352,7 @@ abbrev pub after_line : Result TextProgress Reason → ℕ → (TextProgress →
 after_line (Ok s) n next = next s
 after_line (Err reason) n next = No n reason
 
--- the lines from line n on; the last of them is what stands behind the last line feed
+-- the lines from line n on; the last of them is the rest after the last line feed
 abbrev pub verdict_from : TextProgress → ℕ → List (List ℕ) → Verdict
 verdict_from s n [] = No n Spelling
 verdict_from s n (rest ∷ []) = if is_done s.at && length rest == 0 then Yes else No n Spelling

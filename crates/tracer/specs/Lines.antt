@@ -1,4 +1,4 @@
--- What the judge's values are seen as.
+-- The views of the judge's values.
 use Rattle.std.specs.Prelude.{◌≡◌, ◌==◌, ◌<◌, ℕ, List, [], ◌∷◌, ◌++◌, Some, None, false, length, slice_index_or}
 use Rattle.tracer.specs.{declared.pieces.Pieces.Pieces, declared.lines.EntryDigits.EntryDigits, Judging.line_pieces, Judging.Digits}
 
@@ -17,7 +17,7 @@ digits_of d = record {
   pos = d.pos.text.now;
 }
 
--- the text is this line, which has no line feed, a line feed, and what stands behind that
+-- the text is this line, which has no line feed, a line feed, and the rest
 pub record IsFirstLine (text line behind : List ℕ) : Type 0 where
   pub whole : text ≡ line ++ 10 ∷ behind
   pub first : (k d : ℕ) → k < length line → (slice_index_or line k d == 10) ≡ false

@@ -10,7 +10,7 @@ held part = take part.filled part.bytes.items
 abbrev pub bytes_room : Part → ℕ
 bytes_room part = length part.bytes.items
 
--- the verdict, where this text comes behind the lines that were judged
+-- the verdict, if this text follows the lines that were judged
 abbrev pub verdict_behind : TextJudge → List ℕ → Verdict
 verdict_behind judge text = elim judge.fault [
   | None ↦ verdict_from (progress_of judge.judge) judge.line (lines_in text)

@@ -7,10 +7,10 @@ abbrev pub text_of : Piece → List ℕ
 text_of (Word word) = word.now
 text_of (Number number) = decimal number
 
--- a piece behind a space
+-- a piece after a space
 abbrev pub spaced : List ℕ → List ℕ
 spaced text = 32 ∷ text
 
--- a word of a message behind the first
+-- a word of a message after the first
 abbrev pub behind_comma : ℕ → List ℕ
 behind_comma word = 44 ∷ decimal word

@@ -1,16 +1,16 @@
--- What the judge's tallies are seen as, and what a step leaves.
+-- The views of the judge's tallies, and what a step leaves.
 use Rattle.std.specs.Prelude.{◌≡◌, Result, Ok, Err, map}
 use Rattle.tracer.specs.{declared.verdicts.Reason.Reason, declared.tally.Tally.Tally, declared.judge.Judge.Judge, Judging.Seen, Judging.TextProgress}
 
 abbrev pub seen_in : Tally → Seen
 seen_in t = record { capacity = t.capacity; items = t.items; ops = t.ops; sends = t.sends; recvs = t.recvs; closes = t.closes }
 
--- what the step gives is there now; where it gives a reason, that is the answer
+-- the step's result is the new value; if the step gives a reason, that is the result
 abbrev pub StepsTo : {X : Type 0} → Result X Reason → Result (Unit {0}) Reason → X → Type 0
 StepsTo read (Ok done) now = read ≡ Ok now
 StepsTo read (Err reason) now = read ≡ Err reason
 
--- how far a judge has come
+-- the judge's progress
 abbrev pub progress_of : Judge → TextProgress
 progress_of judge = record {
   at = judge.at;

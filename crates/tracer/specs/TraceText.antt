@@ -1,5 +1,6 @@
--- The text of a trace: the one spelling of capacities, entries and what is left.
--- The capacities are a list by buffer number; what is left is a list by buffer number of the buffer's items, front first.
+-- The text of a trace: the one spelling of capacities, entries and what is left. The capacities are
+-- a list by buffer number; what is left is a list by buffer number of the buffer's items, front
+-- first.
 use Rattle.std.specs.{Prelude.{◌≡◌, ℕ, ◌+◌, ◌<◌, ◌≤◌, true, List, [], ◌∷◌, ◌++◌, length, map, codes, decimal, flat_map}, List.{AllByRecursion, join_with_byte}}
 use Rattle.event_log.specs.{Messages.{Message, no_message, IsMessage}, Buffers.IsCapacity, declared.ids.TheConstants.{CPUS, THREADS, BUFFERS, ENTRIES}}
 use Rattle.event_log.specs.declared.entries.{Kind.{Kind, TheVariants.{Send, Recv, Close, SendClosed, RecvClosed}}, Entry.Entry}
@@ -62,7 +63,8 @@ abbrev pub numbered : {X : Type 0} → (ℕ → X → List (List ℕ)) → ℕ �
 numbered line b [] = []
 numbered line b (x ∷ xs) = line b x ∷ numbered line (b + 1) xs
 
--- all lines of a trace, each as its pieces; the head has the lowest version that can spell the entries
+-- all lines of a trace, each as its pieces; the head has the lowest version that can spell the
+-- entries
 unfoldable pub lines_of : List ℕ → List Entry → List (List Message) → List (List (List ℕ))
 lines_of caps es left = head_pieces (version_of es) ∷ count_pieces
     (length caps) ∷ (numbered cap_pieces 0 caps ++ (map entry_pieces es ++ (numbered left_pieces 0 left ++ end_pieces ∷ [])))
@@ -88,7 +90,7 @@ IsValueOf Close value = value ≡ no_message
 IsValueOf SendClosed value = IsMessage value
 IsValueOf RecvClosed value = value ≡ no_message
 
--- the numbers of an entry are in range, where there are n buffers
+-- the numbers of an entry are in range, if there are n buffers
 pub record IsEntryOf (n : ℕ) (e : Entry) : Type 0 where
   pub cpu : e.cpu.0 < CPUS
   pub thread : e.thread.0 < THREADS
@@ -97,7 +99,8 @@ pub record IsEntryOf (n : ℕ) (e : Entry) : Type 0 where
   pub op : e.op < ENTRIES
   pub pos : e.pos < ENTRIES
 
--- what has a spelling: the version is that of the entries, so nothing that is left wants a higher one
+-- what has a spelling: the version is that of the entries, so nothing that is left needs a higher
+-- one
 pub record IsSpellable (caps : List ℕ) (es : List Entry) (left : List (List Message)) : Type 0 where
   pub some_buffer : 1 ≤ length caps
   pub few_buffers : length caps ≤ BUFFERS

@@ -6,9 +6,9 @@ ghost use Rattle.{event_log.specs.declared.ids.TheConstants.CAPACITY, tracer.spe
 use crate::verdicts::Reason;
 use event_log::{CAPACITY, Kind, Msg, Ring};
 
-/// Puts `value` behind the items.
+/// Appends `value` to the items.
 ///
-/// Errors: `Full` where there are as many items as the capacity; then nothing changed.
+/// Errors: `Full` if there are as many items as the capacity; then nothing changed.
 fn put(items: &mut Ring<Msg>, capacity: usize, value: &Msg) -> Result<(), Reason>
     requires { capacity ≤ CAPACITY }
     ensures { StepsTo (put_if_room value.now capacity items.old) result items.new }
@@ -22,7 +22,7 @@ fn put(items: &mut Ring<Msg>, capacity: usize, value: &Msg) -> Result<(), Reason
 
 /// Takes the first item, which must be `value`.
 ///
-/// Errors: `EmptyTake` where there is none, `WrongValue` where it is another, which is gone then.
+/// Errors: `EmptyTake` if there is none, and `WrongValue` if it is another, which is then removed.
 fn take(items: &mut Ring<Msg>, value: &Msg) -> Result<(), Reason>
     ensures { StepsTo (take_first value.now items.old) result items.new }
 {
@@ -39,10 +39,12 @@ fn take(items: &mut Ring<Msg>, value: &Msg) -> Result<(), Reason>
 ///
 /// Requires: the capacity is at most [`CAPACITY`].
 ///
-/// Errors: `CloseState` if a send finds the buffer closed, or a call that found it closed finds it
-/// open. `Full` if a send finds as many items as the capacity. `EmptyTake` if a receive finds no
-/// item, and `WrongValue` if it finds another first item. `NotEmpty` if a receive that found the
-/// buffer closed finds items. Nothing is judged behind an error, so the items need not be as before.
+/// Errors: nothing is judged after an error, so the items need not be as before.
+///
+/// - `CloseState` if a send finds the buffer closed, or a call that found it closed finds it open.
+/// - `Full` if a send finds as many items as the capacity.
+/// - `EmptyTake` if a receive finds no item, and `WrongValue` if it finds another first item.
+/// - `NotEmpty` if a receive that found the buffer closed finds items.
 pub fn act(
     items: &mut Ring<Msg>,
     capacity: usize,

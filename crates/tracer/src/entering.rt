@@ -11,8 +11,8 @@ use event_log::Entry;
 ///
 /// Requires: the entry's op and its pos are less than [`ENTRIES`](event_log::ENTRIES).
 ///
-/// Errors: `Range` where there is no such buffer, else the first reason against the entry. Nothing
-/// is judged behind an error, so the buffer need not be as before.
+/// Errors: `Range` if there is no such buffer, else the first reason against the entry. Nothing is
+/// judged after an error, so the buffer need not be as before.
 pub fn enter_among(buffers: &mut [Tally], entry: &Entry) -> Result<(), Reason>
     requires { (entry.now.op < ENTRIES) × (entry.now.pos < ENTRIES) }
     ensures { StepsTo (entry_among entry.now (map seen_in buffers.old)) result (map seen_in buffers.new) }

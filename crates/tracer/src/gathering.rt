@@ -13,7 +13,7 @@ use thiserror::Error;
 /// Why traces could not be put in one order.
 #[derive(Clone, Copy, Debug, PartialEq, Eq, Error)]
 pub enum GatherError {
-    /// An allocation was refused, before any entry was taken.
+    /// An allocation failed, before any entry was taken.
     #[error("NoMemory(1)")]
     NoMemory(NoMemory),
     /// No order keeps each trace and counts the effects of each buffer from 0.
@@ -40,12 +40,12 @@ impl<T: Drop> From<AllocFailed<T>> for GatherError {
 /// How many buffers an entry can name.
 const NAMES: usize = 256;
 
-/// Puts the traces of several CPUs in one order that keeps each trace and in which the op numbers
-/// of each buffer are 0, 1, 2 and so on. Where several such orders exist, it takes at each point
-/// the first trace whose next entry has the op number that its buffer waits for.
+/// Puts the traces of several CPUs in one order that keeps each trace. In this order the op numbers
+/// of each buffer are 0, 1, 2 and so on. If several such orders exist, it takes at each point the
+/// first trace whose next entry has the op number that its buffer expects.
 ///
-/// Errors: `NoOrder` exactly where no such order exists; `NoMemory` where an allocation was
-/// refused. All memory is taken before the first entry is.
+/// Errors: `NoOrder` exactly if no such order exists; `NoMemory` if an allocation failed. All
+/// memory is taken before the first entry is.
 pub fn gather<'t>(alloc: Global, traces: &[&'t [Entry]]) -> Result<Vec<&'t Entry>, GatherError>
     ensures order { IfOk result (λ out. IsOrder (traces_in traces.now) (entries_in out.items)) }
     ensures greedy { IfOk result (λ out. TakesFirstReady (traces_in traces.now) (entries_in out.items)) }
@@ -66,10 +66,10 @@ pub fn gather<'t>(alloc: Global, traces: &[&'t [Entry]]) -> Result<Vec<&'t Entry
     }
 }
 
-/// An empty list with room for the entries of all traces, and how many these are. A sum past the
-/// largest `usize` is asked for as that, so that it is the allocator that refuses it.
+/// Returns an empty list with room for the entries of all traces, and how many these are. For a sum
+/// past the largest `usize` it requests the largest `usize`, so that the allocator fails.
 ///
-/// Errors: `AllocError` where an allocation was refused.
+/// Errors: `AllocError` if an allocation failed.
 fn room_for<'t>(
     alloc: Global,
     traces: &[&'t [Entry]],
@@ -86,7 +86,7 @@ fn room_for<'t>(
     Ok((order, count))
 }
 
-/// Where the count of a buffer stands.
+/// Returns the index of a buffer's count.
 fn slot_of(buffer: BufId) -> usize
     ensures is { result ≡ buffer.0 }
     ensures within { result < 256 }
@@ -94,16 +94,17 @@ fn slot_of(buffer: BufId) -> usize
     usize::from(buffer.0)
 }
 
-/// Whether an entry has the op number that its buffer waits for, where `counts` says how many
-/// entries of each buffer stand in the order.
+/// Returns whether an entry has the op number that its buffer expects. `counts` says how many
+/// entries of each buffer are in the order.
 fn is_due(counts: &[u64; NAMES], entry: &Entry) -> bool
     ensures { IsTrue result ↔ IsNextOp counts.now entry.now }
 {
     entry.op == counts[slot_of(entry.buffer)]
 }
 
-/// The first trace whose next entry has the op number that its buffer waits for, and that entry.
-/// `taken` says how many entries of each trace stand in the order, `counts` how many of each buffer.
+/// Returns the first trace whose next entry has the op number that its buffer expects, and that
+/// entry. `taken` says how many entries of each trace are in the order, `counts` how many of each
+/// buffer.
 fn first_ready<'t>(
     traces: &[&'t [Entry]],
     taken: &[usize],
@@ -125,9 +126,9 @@ fn first_ready<'t>(
     None
 }
 
-/// A law: traces of which some order is a run have an order for [`gather`] to find, and each order
-/// of them is a run that ends in the same contents. So the gathered order of a system's traces is
-/// a run that ends in the system's contents.
+/// A law: traces of which some order is a legal history have an order for [`gather`] to find. Each
+/// order of them is a legal history that ends in the same contents. Therefore the gathered order of
+/// a system's traces is a legal history that ends in the system's contents.
 #[tactic(auto, using(crate::proofs::OrderLemmas::orders_agree, crate::proofs::OrderLemmas::runs_have_order, crate::proofs::OrderLemmas::run_alike))]
 pub fn gathered_is_a_run()
     ensures found { (traces : List (List AnEntry)) → RunsHaveOrder traces }

@@ -1,5 +1,5 @@
-//! One read of an input, tried again where a signal interrupted it. That a read failed ([`ReadFailed`]) is
-//! told here alone. A read may wait.
+//! One read of an input, tried again if a signal interrupted it. Only this module makes the
+//! evidence that a read failed ([`ReadFailed`]). A read may wait.
 
 ghost use Rattle.std.specs.Prelude.{◌≡◌, ◌≢◌, ◌+◌, ◌<◌, ◌≤◌, length, take, drop, IfErr, IfOk, OnErr};
 ghost use Rattle.std.specs.{declared.io.ErrorKind.TheVariants.Interrupted, Io.KnownBytes.{Consumes, IsAtEnd, Keeps}};
@@ -7,15 +7,15 @@ ghost use Rattle.std.specs.{declared.io.ErrorKind.TheVariants.Interrupted, Io.Kn
 use std::io;
 use std::io::Read;
 
-/// A read that failed, by the kind of its error. It is made of a failed read alone, and where 2^64
-/// interrupted reads did not do.
+/// A read that failed, with the kind of its error. It is made only of a failed read, or after 2^64
+/// interrupted reads.
 #[derive(Clone, Copy, Debug, PartialEq, Eq)]
 pub struct ReadFailed {
     kind: io::ErrorKind,
 }
 
 impl ReadFailed {
-    /// The kind of the read's error.
+    /// Returns the kind of the read's error.
     pub fn kind(self) -> io::ErrorKind
         ensures { result ≡ self.kind }
     {
@@ -23,7 +23,7 @@ impl ReadFailed {
     }
 }
 
-// One read into the bytes behind the first `at`. After an error nothing was read.
+// Reads once into the bytes after the first `at`. After an error nothing was read.
 fn read_once<R: Read>(bytes: &mut [u8], at: usize, input: &mut R) -> io::Result<usize>
     requires { at ≤ length bytes.old }
     ensures length { length bytes.new ≡ length bytes.old }
@@ -36,12 +36,12 @@ fn read_once<R: Read>(bytes: &mut [u8], at: usize, input: &mut R) -> io::Result<
     input.read(&mut bytes[at..])
 }
 
-/// A read into the bytes behind the first `at`. One that a signal interrupted is tried again.
+/// Reads into the bytes after the first `at`. A read that a signal interrupted is tried again.
 ///
 /// Requires: `at` is at most the number of bytes.
 ///
-/// Errors: `ReadFailed` with the kind of a read that failed, and never that a signal interrupted one;
-/// `TimedOut` if 2^64 reads did not do.
+/// Errors: `ReadFailed` with the kind of a read that failed, and never that a signal interrupted
+/// one; `TimedOut` if 2^64 reads were interrupted.
 pub(crate) fn read_behind<R: Read>(
     bytes: &mut [u8],
     at: usize,

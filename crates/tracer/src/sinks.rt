@@ -7,13 +7,14 @@ ghost use Rattle.tracer.specs.Sinks.{has_failed, is_flushed, writer_of, WentOut}
 use std::io::Write;
 use thiserror::Error;
 
-/// A write to a sink failed. A beginning of what was to be written may be out.
+/// A write to a sink failed. A prefix of what it was to write may be out.
 #[derive(Clone, Copy, Debug, PartialEq, Eq, Error)]
 #[error("WriteFault(8)")]
 pub struct WriteFault;
 
-/// A writer, whether a write of it failed, and whether it was flushed since anything was put. A write
-/// fails where it answers an error, of whatever kind, or takes no byte of a piece that isn't empty.
+/// A writer, whether a write of it failed, and whether it was flushed since anything was put. A
+/// write fails if it returns an error, of whatever kind, or takes no byte of a piece that is not
+/// empty.
 #[derive(Drop)]
 pub struct Sink<W> {
     writer: W,
@@ -22,7 +23,7 @@ pub struct Sink<W> {
 }
 
 impl<W: Write> Sink<W> {
-    /// A sink over `writer` that has not failed and to which nothing was put.
+    /// Makes a sink over `writer` that has not failed and to which nothing was put.
     pub fn new(writer: W) -> Sink<W>
         ensures failed { has_failed result ≡ false }
         ensures flushed { is_flushed result ≡ true }
@@ -35,7 +36,7 @@ impl<W: Write> Sink<W> {
         }
     }
 
-    /// Whether a write failed.
+    /// Returns whether a write failed.
     pub fn failed(&self) -> bool
         ensures { result ≡ has_failed self.now }
     {
@@ -43,7 +44,7 @@ impl<W: Write> Sink<W> {
         *failed
     }
 
-    /// Whether nothing was put since the last good flush, or ever.
+    /// Returns whether nothing was put since the last successful flush, or ever.
     pub fn flushed(&self) -> bool
         ensures { result ≡ is_flushed self.now }
     {
@@ -55,8 +56,8 @@ impl<W: Write> Sink<W> {
     ///
     /// Requires: the sink has not failed.
     ///
-    /// Errors: `WriteFault` exactly where a write failed; then a beginning of `piece` is out, and
-    /// the sink has failed. Either way it is not flushed.
+    /// Errors: `WriteFault` exactly if a write failed; then a prefix of `piece` is out, and the
+    /// sink has failed. In both cases it is not flushed.
     pub fn put(&mut self, piece: &[u8]) -> Result<(), WriteFault>
         requires { has_failed self.old ≡ false }
         ensures failed { is_err result ≡ has_failed self.new }
@@ -77,12 +78,12 @@ impl<W: Write> Sink<W> {
         Ok(())
     }
 
-    /// Asks the writer to pass on what it holds back.
+    /// Asks the writer to flush what it holds back.
     ///
     /// Requires: the sink has not failed.
     ///
-    /// Errors: `WriteFault` exactly where the writer answers an error; then the sink has failed, and
-    /// is as little flushed as before.
+    /// Errors: `WriteFault` exactly if the writer returns an error; then the sink has failed, and
+    /// is flushed only if it was before.
     pub fn flush(&mut self) -> Result<(), WriteFault>
         requires { has_failed self.old ≡ false }
         ensures failed { is_err result ≡ has_failed self.new }

@@ -25,7 +25,7 @@ pub struct Tally {
 impl Tally {
     ghost use Rattle.tracer.specs.Tallies.{seen_in, StepsTo};
 
-    /// A buffer that had no effect.
+    /// Makes a buffer that had no effect.
     ///
     /// Requires: the capacity is at most [`CAPACITY`].
     pub fn new(capacity: usize) -> Tally
@@ -42,14 +42,14 @@ impl Tally {
         }
     }
 
-    /// Whether it was closed.
+    /// Returns whether it was closed.
     fn is_closed(&self) -> bool
         ensures { result ≡ was_closed (seen_in self.now) }
     {
         self.closes > 0
     }
 
-    /// How many effects it had that are counted with this kind.
+    /// Returns how many effects it had that are counted with this kind.
     fn pos(&self, kind: Kind) -> u64
         ensures { result ≡ next_pos (group_of kind) (seen_in self.now) }
     {
@@ -79,7 +79,7 @@ impl Tally {
     ///
     /// Errors: `Op` if the op is not the number of entries so far. `Pos` if the pos is not the
     /// number of those that are counted with its kind. Else the first reason against the effect.
-    /// Nothing is judged behind an error, so the buffer need not be as before.
+    /// Nothing is judged after an error, so the buffer need not be as before.
     #[tactic(auto, unfolding(crate::specs::Judging::entry_on))]
     pub fn enter(&mut self, entry: &Entry) -> Result<(), Reason>
         requires { (entry.now.op < ENTRIES) × (entry.now.pos < ENTRIES) }
@@ -103,7 +103,7 @@ impl Tally {
         Ok(())
     }
 
-    /// Whether the pieces spell the items.
+    /// Returns whether the pieces spell the items.
     pub fn holds(&self, values: Pieces<'_>) -> bool
         ensures { result ≡ are_values (left_of values.entry) (seen_in self.now).items }
     {

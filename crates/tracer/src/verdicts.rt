@@ -10,34 +10,35 @@ use thiserror::Error;
 /// The first reason against a line of a trace text. Each prints as its name and its number.
 #[derive(Clone, Copy, Debug, PartialEq, Eq, Error)]
 pub enum Reason {
-    /// The line is no spelling of a line that may stand here, whatever the size of its numbers; or
-    /// it is not ended by a line feed, the text ends where a line is wanted, or a byte stands behind
-    /// the last line.
+    /// The line is no spelling of a line that is allowed here, whatever the size of its numbers. Or
+    /// it is not ended by a line feed, the text ends before its last line, or a byte follows the
+    /// last line.
     Spelling,
     /// A number is out of its range, or there are more than `ENTRIES` entries.
     Range,
     /// The op is not the number of entries of that buffer before it.
     Op,
-    /// The pos is not the number of entries of that buffer before it that are counted with its kind.
+    /// The pos is not the number of entries of that buffer before it that are counted with its
+    /// kind.
     Pos,
-    /// A send where the buffer holds as many items as its capacity.
+    /// A send on a buffer that holds as many items as its capacity.
     Full,
-    /// A receive where the buffer holds nothing.
+    /// A receive from a buffer that holds nothing.
     EmptyTake,
     /// A receive of a value that is not the buffer's first item.
     WrongValue,
     /// The values of a `left` line are not the items of the buffer.
     Left,
-    /// The text ends well, but a lower version than the head's can spell it.
+    /// The text ends as it must, but a lower version than the head's can spell it.
     OfVersion,
     /// A send on a closed buffer, or a call that found an open buffer closed.
     CloseState,
-    /// A receive that found its buffer closed where items are left.
+    /// A receive that found its buffer closed although items are left.
     NotEmpty,
 }
 
 impl Reason {
-    /// The name of the reason with its number, as `Spelling(30)`.
+    /// Returns the name of the reason with its number, as `Spelling(30)`.
     pub fn name(self) -> &'static str
         ensures { result.now ≡ reason_name self }
     {
@@ -70,10 +71,11 @@ impl fmt::Display for Reason {
 /// What the judge says of a text.
 #[derive(Clone, Copy, Debug, PartialEq, Eq)]
 pub enum Verdict {
-    /// It is the trace text of a run, and what it says is left is where the run ends.
+    /// It is the trace text of a legal history, and what it says is left is what that history
+    /// leaves.
     Yes,
     /// The first line with a fault, counted from 1, and its first reason.
     No(usize, Reason),
-    /// An allocation was refused. The judge takes no memory, so it never says this.
+    /// Out of memory. The judge takes no memory, so it never says this.
     NoMemory(NoMemory),
 }

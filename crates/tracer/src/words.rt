@@ -42,7 +42,7 @@ fn are_numbers(piece: &[u8]) -> bool
 pub fn spells_message(version: Version, piece: Numeral<'_>) -> bool
     ensures { result ≡ spells_message version piece.entry.text.now }
 {
-    // most often it is one word, and nobody looks for a comma
+    // The piece most often is one word, and then no comma is searched for.
     if piece.is_number() {
         return true;
     }

@@ -13,14 +13,14 @@ use event_log::{CAPACITY, Entry, Kind, Msg};
 use itoa::{Buffer, write_digits};
 use std::io::Write;
 
-/// A piece of a line behind its first word.
+/// A piece of a line after its first word.
 #[derive(Clone, Copy)]
 enum Piece {
     Word(&'static [u8]),
     Number(u64),
 }
 
-/// A number, with what stands before it.
+/// Writes a number, after the bytes before it.
 fn put_number<W: Write>(sink: &mut Sink<W>, before: &[u8], number: u64) -> Result<(), WriteFault>
     requires { has_failed sink.old ≡ false }
     ensures failed { is_err result ≡ has_failed sink.new }
@@ -30,7 +30,7 @@ fn put_number<W: Write>(sink: &mut Sink<W>, before: &[u8], number: u64) -> Resul
     sink.put(Buffer::new().format(number).as_bytes())
 }
 
-/// A comma and a word, for each word.
+/// Writes a comma and a word, for each word.
 fn put_words<W: Write>(sink: &mut Sink<W>, words: &[u64]) -> Result<(), WriteFault>
     requires { has_failed sink.old ≡ false }
     ensures failed { is_err result ≡ has_failed sink.new }
@@ -42,7 +42,7 @@ fn put_words<W: Write>(sink: &mut Sink<W>, words: &[u64]) -> Result<(), WriteFau
     Ok(())
 }
 
-/// A space and a message.
+/// Writes a space and a message.
 fn put_message<W: Write>(sink: &mut Sink<W>, message: &Msg) -> Result<(), WriteFault>
     requires { has_failed sink.old ≡ false }
     ensures failed { is_err result ≡ has_failed sink.new }
@@ -53,7 +53,7 @@ fn put_message<W: Write>(sink: &mut Sink<W>, message: &Msg) -> Result<(), WriteF
     put_words(sink, &message.words()[1..count])
 }
 
-/// A space and a piece.
+/// Writes a space and a piece.
 fn put_piece<W: Write>(sink: &mut Sink<W>, piece: Piece) -> Result<(), WriteFault>
     requires { has_failed sink.old ≡ false }
     ensures failed { is_err result ≡ has_failed sink.new }
@@ -68,7 +68,7 @@ fn put_piece<W: Write>(sink: &mut Sink<W>, piece: Piece) -> Result<(), WriteFaul
     }
 }
 
-/// A space and a piece, for each piece.
+/// Writes a space and a piece, for each piece.
 fn put_pieces<W: Write>(sink: &mut Sink<W>, pieces: &[Piece]) -> Result<(), WriteFault>
     requires { has_failed sink.old ≡ false }
     ensures failed { is_err result ≡ has_failed sink.new }
@@ -80,7 +80,7 @@ fn put_pieces<W: Write>(sink: &mut Sink<W>, pieces: &[Piece]) -> Result<(), Writ
     Ok(())
 }
 
-/// A space and a message, for each message.
+/// Writes a space and a message, for each message.
 fn put_messages<W: Write>(sink: &mut Sink<W>, messages: &[Msg]) -> Result<(), WriteFault>
     requires { has_failed sink.old ≡ false }
     ensures failed { is_err result ≡ has_failed sink.new }
@@ -92,7 +92,7 @@ fn put_messages<W: Write>(sink: &mut Sink<W>, messages: &[Msg]) -> Result<(), Wr
     Ok(())
 }
 
-/// A line: its first word, the pieces and the messages behind it, and a line feed.
+/// Writes a line: its first word, the pieces and the messages after it, and a line feed.
 fn put_line<W: Write>(
     sink: &mut Sink<W>,
     word: &[u8],
@@ -109,7 +109,7 @@ fn put_line<W: Write>(
     sink.put(b"\n")
 }
 
-/// The head line.
+/// Writes the head line.
 fn put_head<W: Write>(sink: &mut Sink<W>, version: Version) -> Result<(), WriteFault>
     requires { has_failed sink.old ≡ false }
     ensures failed { is_err result ≡ has_failed sink.new }
@@ -118,7 +118,7 @@ fn put_head<W: Write>(sink: &mut Sink<W>, version: Version) -> Result<(), WriteF
     put_line(sink, b"mctower-trace", &[Piece::Word(version.word())], &[])
 }
 
-/// The capacity lines.
+/// Writes the capacity lines.
 fn put_caps<W: Write>(sink: &mut Sink<W>, caps: &[u8]) -> Result<(), WriteFault>
     requires { has_failed sink.old ≡ false }
     ensures failed { is_err result ≡ has_failed sink.new }
@@ -131,7 +131,7 @@ fn put_caps<W: Write>(sink: &mut Sink<W>, caps: &[u8]) -> Result<(), WriteFault>
     Ok(())
 }
 
-/// The word of a kind.
+/// Returns the word of a kind.
 fn word_of(kind: Kind) -> &'static [u8]
     ensures { result.now ≡ kind_word kind }
 {
@@ -147,7 +147,7 @@ fn word_of(kind: Kind) -> &'static [u8]
 /// How many bytes the line of an entry is made in; the longest has 230.
 const LINE: usize = 288;
 
-/// Puts a byte and a number before what stands from `end` on, and tells where they start.
+/// Puts a byte and a number before the bytes from `end` on, and returns where they start.
 fn add_number(line: &mut [u8; LINE], end: usize, before: u8, number: u64) -> usize
     requires room { 21 ≤ end }
     requires within { end ≤ LINE }
@@ -160,7 +160,7 @@ fn add_number(line: &mut [u8; LINE], end: usize, before: u8, number: u64) -> usi
     at
 }
 
-/// Puts a space and a word before what stands from `end` on, and tells where they start.
+/// Puts a space and a word before the bytes from `end` on, and returns where they start.
 fn add_word(line: &mut [u8; LINE], end: usize, word: &[u8]) -> usize
     requires room { length word.now + 1 ≤ end }
     requires within { end ≤ LINE }
@@ -173,7 +173,7 @@ fn add_word(line: &mut [u8; LINE], end: usize, word: &[u8]) -> usize
     at - 1
 }
 
-/// Puts words, each behind a comma, before what stands from `end` on, and tells where they start.
+/// Puts words, each after a comma, before the bytes from `end` on, and returns where they start.
 fn add_words(line: &mut [u8; LINE], end: usize, words: &[u64]) -> usize
     requires few { length words.now < WORDS }
     requires room { 21 * length words.now ≤ end }
@@ -191,7 +191,7 @@ fn add_words(line: &mut [u8; LINE], end: usize, words: &[u64]) -> usize
     at
 }
 
-/// Puts a space and a message before what stands from `end` on, and tells where they start.
+/// Puts a space and a message before the bytes from `end` on, and returns where they start.
 fn add_message(line: &mut [u8; LINE], end: usize, message: &Msg) -> usize
     requires room { 168 ≤ end }
     requires within { end ≤ LINE }
@@ -204,8 +204,8 @@ fn add_message(line: &mut [u8; LINE], end: usize, message: &Msg) -> usize
     add_number(line, at, b' ', message.first())
 }
 
-/// Puts a space and the message of an effect of this kind, a dash where it has none, before what
-/// stands from `end` on, and tells where they start.
+/// Puts a space and the message of an effect of this kind, or a dash if it has none, before the
+/// bytes from `end` on. Returns where they start.
 fn add_value(line: &mut [u8; LINE], end: usize, kind: Kind, value: &Msg) -> usize
     requires room { 168 ≤ end }
     requires within { end ≤ LINE }
@@ -219,7 +219,7 @@ fn add_value(line: &mut [u8; LINE], end: usize, kind: Kind, value: &Msg) -> usiz
     }
 }
 
-/// Makes the line of an entry at the end of `line`, and tells where it starts.
+/// Makes the line of an entry at the end of `line`, and returns where it starts.
 fn add_entry(line: &mut [u8; LINE], entry: &Entry) -> usize
     ensures within { result ≤ LINE }
     ensures line { drop result line.new ≡ text_line (entry_pieces entry.now) }
@@ -236,7 +236,7 @@ fn add_entry(line: &mut [u8; LINE], entry: &Entry) -> usize
     cpu - 1
 }
 
-/// The line of an entry.
+/// Writes the line of an entry.
 fn put_entry<W: Write>(sink: &mut Sink<W>, entry: &Entry) -> Result<(), WriteFault>
     requires { has_failed sink.old ≡ false }
     ensures failed { is_err result ≡ has_failed sink.new }
@@ -247,7 +247,7 @@ fn put_entry<W: Write>(sink: &mut Sink<W>, entry: &Entry) -> Result<(), WriteFau
     sink.put(&line[start..])
 }
 
-/// The lines of the entries.
+/// Writes the lines of the entries.
 fn put_entries<W: Write>(sink: &mut Sink<W>, entries: &[&Entry]) -> Result<(), WriteFault>
     requires { has_failed sink.old ≡ false }
     ensures failed { is_err result ≡ has_failed sink.new }
@@ -259,7 +259,7 @@ fn put_entries<W: Write>(sink: &mut Sink<W>, entries: &[&Entry]) -> Result<(), W
     Ok(())
 }
 
-/// The lines of what is left.
+/// Writes the lines of what is left.
 fn put_left<W: Write>(
     sink: &mut Sink<W>,
     left: &[ArrayVec<Msg, CAPACITY>],
@@ -274,17 +274,16 @@ fn put_left<W: Write>(
     Ok(())
 }
 
-/// Writes the text of a trace: the capacities, the entries in their order, and what is left in
-/// each buffer, front first. The text is of the lowest version that can spell the entries. By as
-/// many writes as the writer needs; it takes no memory.
+/// Writes the text of a trace: the capacities, the entries in their order, and what is left in each
+/// buffer, front first. The text is of the lowest version that can spell the entries. It uses as
+/// many writes as the writer needs, and takes no memory.
 ///
 /// Requires: the sink has not failed. There are 1 to `BUFFERS` buffers, each of capacity 1 to
 /// `CAPACITY`. There are at most `ENTRIES` entries, and their numbers are in range. An entry whose
 /// effect has no message has the message 0. `left` has a list for each buffer. A message in it has
 /// several words only if one of an entry has.
 ///
-/// Errors: `WriteFault` exactly where the sink failed in this call; then a beginning of the text is
-/// out.
+/// Errors: `WriteFault` exactly if the sink failed in this call; then a prefix of the text is out.
 pub fn write_trace<W: Write>(
     sink: &mut Sink<W>,
     caps: &[u8],

@@ -1,5 +1,5 @@
-//! What was counted: a number with the kind of the locks behind which it was counted. It is made here
-//! alone, of a machine or of a closed table. No call takes memory or waits.
+//! What was counted: a number with the kind of the locks under which it was counted. Only this
+//! module makes it, of a machine or of a closed table. No call takes memory or waits.
 
 ghost use Rattle.std.specs.Prelude.{◌≡◌, ◌*◌, ◌%◌, ◌^◌, ◌<◌, ◌≤◌, Some, [], ◌∷◌};
 ghost use Rattle.{event_log.specs.{declared.ids.{CpuId.CpuId, TheConstants.CPUS}, Actions.{gives, phase, Rests}}, table_machine.specs.SeatViews.new_seat_views};
@@ -13,7 +13,7 @@ use boot::LockKind;
 use layer_traits::OwnedLocks;
 use table_machine::{Key, Shared};
 
-/// A name of the lock whose layer of critical sections `L` is: it tells the lock's kind.
+/// A name of the lock whose layer of critical sections `L` is; it gives the lock's kind.
 pub trait LockOfKind<L> {
     ghost use Rattle.boot.specs.declared.locks.LockKind.{LockKind};
 
@@ -30,10 +30,10 @@ pub enum CountedAt {
     Table,
 }
 
-/// A number that was counted behind locks of this kind: how often a lock was given on, where each of
-/// so many CPUs did so many sections. [`number_in`] makes it of an owned machine, and [`number_left`]
-/// of a closed table whose CPUs counted each in a thread of its own. Of a table at which nothing was
-/// counted it tells no section.
+/// A number that was counted under locks of this kind: how often a lock was released. Each of so
+/// many CPUs did so many sections. [`number_in`] makes it of an owned machine. [`number_left`]
+/// makes it of a closed table, each of whose CPUs counted in its own thread. For a table at which
+/// nothing was counted it says that no section was done.
 #[derive(Clone, Copy, Debug, PartialEq, Eq)]
 pub struct Counted {
     number: u64,
@@ -44,28 +44,28 @@ pub struct Counted {
 }
 
 impl Counted {
-    /// The number.
+    /// Returns the number.
     pub fn number(&self) -> u64
         ensures { result ≡ self.now.number }
     {
         self.number
     }
 
-    /// The kind of the locks.
+    /// Returns the kind of the locks.
     pub fn lock(&self) -> LockKind
         ensures { result ≡ self.now.lock }
     {
         self.lock
     }
 
-    /// How many CPUs counted.
+    /// Returns how many CPUs counted.
     pub fn cpus(&self) -> u8
         ensures { result ≡ self.now.cpus }
     {
         self.cpus
     }
 
-    /// How many sections each of them did.
+    /// Returns how many sections each of them did.
     pub fn times(&self) -> u64
         ensures { result ≡ self.now.times }
     {
@@ -73,11 +73,11 @@ impl Counted {
     }
 }
 
-/// The number of an owned machine at rest: how often its lock was given on, modulo 2^64.
+/// Returns the number of an owned machine at rest: how often its lock was released, modulo 2^64.
 ///
 /// Requires: each poll of the lock is one action. The holder of the machine acts for some CPU. The
-/// machine was opened with the number 0. No CPU waits at a lock or holds one. Each of `cpus` CPUs has
-/// done `times` sections, in rounds, and nothing else was done. `lock` is the kind of the lock.
+/// machine was opened with the number 0. No CPU waits at a lock or holds one. Each of `cpus` CPUs
+/// has done `times` sections, in rounds, and nothing else was done. `lock` is the kind of the lock.
 pub fn number_in<L: OwnedLocks<AddOne>, V: LockOfKind<L>>(
     machine: &L::Machine,
     cpus: u8,
@@ -134,12 +134,12 @@ fn closed<K: PlanWords>(
     }
 }
 
-/// Closes the table, whose number was 0 before each of its CPUs did `times` sections that add 1, each in
-/// a thread of its own, and gives the number. It is how often its lock was freed in one legal log, which
-/// begins with the log of each key and has no other CPU's events.
+/// Closes the table, whose number was 0 before each of its CPUs did `times` sections that add 1,
+/// each CPU in its own thread. Returns the number: how often the table's lock was released in one
+/// legal log. The log begins with the log of each key and has no other CPU's events.
 ///
-/// Requires: the table has the one lock of the number, which was 0, and `cpus` CPUs, at most `CPUS`.
-/// Each key has made just so many sections. All sections together are fewer than 2^64.
+/// Requires: the table has the one lock of the number, which was 0, and `cpus` CPUs, at most
+/// `CPUS`. Each key has made exactly so many sections. All sections together are fewer than 2^64.
 pub fn number_left<K: PlanWords>(
     shared: Shared<AddOne, K>,
     came: Joined<Key<AddOne>>,
@@ -161,11 +161,11 @@ pub fn number_left<K: PlanWords>(
     closed(shared, came.into_done(), cpus, times)
 }
 
-/// Closes the table, whose number was 0, with its keys as they were, and gives the number: nothing was
-/// counted.
+/// Closes the table, whose number was 0, with its keys as they were, and returns the number:
+/// nothing was counted.
 ///
-/// Requires: the table has the one lock of the number, which was 0, and `cpus` CPUs, at most `CPUS`.
-/// No key has seen anything.
+/// Requires: the table has the one lock of the number, which was 0, and `cpus` CPUs, at most
+/// `CPUS`. No key has seen anything.
 pub(crate) fn number_untouched<K: PlanWords>(
     shared: Shared<AddOne, K>,
     keys: Vec<Key<AddOne>>,

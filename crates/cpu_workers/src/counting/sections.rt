@@ -13,7 +13,7 @@ use std::marker::PhantomData;
 use std::sync::Wait;
 use table_machine::{Key, Seat, Shared, TableWords};
 
-// One section that adds 1: polls until it answers. Nothing lies in the payload that counts.
+// Does one section that adds 1: polls until it returns. The payload holds nothing that counts.
 fn add_one<L: LockLayer<AddOne>, R: Wait>(
     rt: &R,
     part: &mut L,
@@ -43,13 +43,14 @@ fn add_one<L: LockLayer<AddOne>, R: Wait>(
         {
             return;
         }
-        // A poll that goes on is inside its section: after a look that hit the next one frees the lock.
+        // A poll that does not return is inside its section: after a poll that acquired the lock,
+        // the next one releases it.
         spins = pause(true, false, spins);
     }
     unreachable!()
 }
 
-// So many sections of this CPU at its seat, which add 1 each.
+// Does so many sections of this CPU at its seat, which add 1 each.
 fn work_at<L: LockLayer<AddOne> + Drop, R: Wait>(
     rt: &R,
     cpu: CpuId,
@@ -72,7 +73,8 @@ fn work_at<L: LockLayer<AddOne> + Drop, R: Wait>(
     }
 }
 
-/// So many sections of the key's CPU, which add 1 each, whatever the words of the table's locks are.
+/// Does so many sections of the key's CPU, which add 1 each, whatever the words of the table's
+/// locks are.
 ///
 /// Requires: the key is one of this table, its CPU neither waits at a lock nor holds one, and the
 /// lock of the number is there.

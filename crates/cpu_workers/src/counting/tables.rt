@@ -1,5 +1,5 @@
-//! The table of a count: opened with its number, counted at, and closed. To open it takes memory;
-//! to count waits for the workers.
+//! The table of a count: opened with its number, counted at, and closed. Opening it takes memory;
+//! counting waits for the workers.
 
 ghost use Rattle.std.specs.Prelude.{◌≡◌, ◌*◌, ◌<◌, ◌≤◌, ◌^◌, ◌⊎◌, [], ◌∷◌, IsErr, IsSome, IfOk, IfErr, IfSome, OnErr};
 ghost use Rattle.{event_log.specs.Refusals.no_memory, table_machine.specs.SeatViews.new_seat_views, cpu_workers.specs.Counts.IsUncounted};
@@ -19,7 +19,7 @@ use std::sync::Wait;
 use std::thread::Threads;
 use table_machine::{Key, Shared, TableWords};
 
-// The table of the number, which is 0, with a key for each CPU.
+// Opens the table of the number, which is 0, with a key for each CPU.
 fn open_number<K: TableWords>(
     alloc: Global,
     cpus: u8,
@@ -43,8 +43,8 @@ pub struct NotCounted {
     pub left: Option<Counted>,
 }
 
-// Counts at the table, if it was opened: memory is wanting where it was not. Where nothing was
-// counted the table is closed with the keys that came back, and its number is 0.
+// Counts at the table, if it was opened. If it was not, memory ran out. If nothing was counted, the
+// table is closed with the keys that were returned, and its number is 0.
 fn count_if_open<K: PlanWords + Sync, R: Threads + Wait + Sync>(
     rt: &R,
     alloc: Global,
@@ -82,12 +82,12 @@ fn count_if_open<K: PlanWords + Sync, R: Threads + Wait + Sync>(
     }
 }
 
-/// As [`count_table`], with what is left where nothing was counted.
+/// Counts as [`count_table`] does, and returns what is left if nothing was counted.
 ///
 /// Requires: there are at most `CPUS` CPUs, and all sections together are fewer than 2^64.
 ///
-/// Errors: as `count_table`; then no section was done, and the table's number is 0, if there was a table.
-/// Without one memory was wanting.
+/// Errors: as `count_table`; then no section was done, and the table's number is 0, if there was a
+/// table. If there was none, memory ran out.
 pub fn count_or_leave<R: Threads + Wait + Sync>(
     rt: &R,
     alloc: Global,
@@ -111,16 +111,18 @@ pub fn count_or_leave<R: Threads + Wait + Sync>(
     )
 }
 
-/// Counts over shared words of locks of this kind: each of `cpus` CPUs does `times` sections that add
-/// 1 to one number, in a thread of its own, with its own seat at one table. All threads are started
-/// before any of them does a section, and all are joined. The number is read from the block that the
-/// closed table gives. That it was counted by so many CPUs, each of which did so many sections, is
-/// what the number is evidence of ([`Counted`]): it is made of keys that threads left which were joined.
+/// Counts over shared words of locks of this kind. Each of `cpus` CPUs does `times` sections that
+/// add 1 to one number. Each has its own thread and its own seat at one table. All threads are
+/// started before any of them does a section, and all are joined.
+///
+/// The number is read from the block that the closed table returns. It is evidence that so many
+/// CPUs counted it, each in so many sections ([`Counted`]). It is made of keys that joined threads
+/// left.
 ///
 /// Requires: there are at most `CPUS` CPUs, and all sections together are fewer than 2^64.
 ///
-/// Errors: `NoMemory` where memory ran out and `NoThread` where a thread could not be started; then
-/// no section was done, and the threads that were started are joined.
+/// Errors: `NoMemory` if memory ran out, and `NoThread` if a thread could not be started. Then no
+/// section was done, and the threads that were started are joined.
 pub fn count_table<R: Threads + Wait + Sync>(
     rt: &R,
     alloc: Global,

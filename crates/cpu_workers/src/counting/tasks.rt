@@ -1,5 +1,5 @@
-//! A worker that counts, as a task in a thread of its own. `count_all` takes memory, starts threads and
-//! waits for them.
+//! A worker that counts, as a task in its own thread. `count_all` takes memory, starts threads
+//! and waits for them.
 
 ghost use Rattle.std.specs.Prelude.{◌≡◌, ◌≤◌, [], IsSome, IfOk, IfErr, All, length, map, vec_capacity};
 ghost use Rattle.{layer_traits.specs.Protocols.OneLock.opened, cpu_workers.specs.{declared.counting.TheConstants.NUMBER, Counts.{AllHaveMade, IsFresh}}};
@@ -18,7 +18,7 @@ use table_machine::{Key, Shared};
 
 // A worker before its sections, at the table of its key.
 #[derive(Drop)]
-pub(crate) struct Counting<'a, K: PlanWords> {
+struct Counting<'a, K: PlanWords> {
     shared: &'a Shared<AddOne, K>,
     key: Key<AddOne>,
     times: u64,
@@ -40,7 +40,7 @@ impl<'a, K: PlanWords> Task for Counting<'a, K> {
     }
 }
 
-// Room for the tasks of so many workers, and for their keys if they come back.
+// Room for the tasks of so many workers, and for their keys if these are returned.
 #[derive(Drop)]
 struct Room<'a, K: PlanWords> {
     tasks: Vec<Counting<'a, K>>,
@@ -57,7 +57,7 @@ fn room_for<'a, K: PlanWords>(alloc: Global, count: usize) -> Result<Room<'a, K>
     })
 }
 
-// A task for each key, put into the list, which has room.
+// Puts a task for each key into the list, which has room.
 fn all_counting<'a, K: PlanWords>(
     shared: &'a Shared<AddOne, K>,
     keys: Vec<Key<AddOne>>,
@@ -75,7 +75,7 @@ fn all_counting<'a, K: PlanWords>(
     tasks
 }
 
-// The keys of tasks that come back, put into the list, which has room.
+// Puts the keys of tasks that are returned into the list, which has room.
 fn keys_of<K: PlanWords>(
     tasks: Vec<Counting<'_, K>>,
     mut keys: Vec<Key<AddOne>>,
@@ -95,12 +95,13 @@ fn keys_of<K: PlanWords>(
     keys
 }
 
-/// A worker for each key, which does so many sections in a thread of its own, as `run_all` does.
+/// Runs a worker for each key, which does so many sections in its own thread, as `run_all` does.
 ///
-/// Requires: each key is one of this table and has seen nothing, and the lock of the number is there.
+/// Requires: each key is one of this table and has seen nothing, and the lock of the number is
+/// there.
 ///
-/// Errors: `NoMemory` where memory was refused and `NoThread` where a thread could not be started, with
-/// the keys as they were.
+/// Errors: `NoMemory` if an allocation failed, and `NoThread` if a thread could not be started,
+/// with the keys as they were.
 pub(crate) fn count_all<K: PlanWords + Sync, R: Threads + Wait + Sync>(
     rt: &R,
     alloc: Global,

@@ -24,7 +24,7 @@ use std::sync::Wait;
 use std::thread::Threads;
 use table_machine::{Key, Shared, TableWords, TicketWords};
 
-/// What natives leave behind.
+/// What natives leave.
 #[derive(Drop)]
 pub struct NativeReport<N: Drop> {
     /// The natives after they ran, in their order.
@@ -36,7 +36,8 @@ pub struct NativeReport<N: Drop> {
 impl<N: Drop> NativeReport<N> {
     ghost use Rattle.cpu_workers.specs.Seating.{items_of_block};
 
-    /// What is left in `buffer`, front first. Where there is no such buffer it is nothing.
+    /// Returns what is left in `buffer`, front first. If there is no such buffer, it returns
+    /// nothing.
     pub fn items(&self, buffer: BufId) -> ArrayVec<Msg, CAPACITY>
         ensures { result.items ≡ items_of_block self.now.blocks.items buffer }
     {
@@ -44,7 +45,7 @@ impl<N: Drop> NativeReport<N> {
     }
 }
 
-// What natives leave behind at a table, by CPU: their keys and themselves.
+// What natives leave at a table, by CPU: their keys and themselves.
 #[derive(Drop)]
 struct NativeBack<E: SplitEdit, N: Drop> {
     keys: Vec<Key<E>>,
@@ -52,7 +53,7 @@ struct NativeBack<E: SplitEdit, N: Drop> {
 }
 
 impl<E: SplitEdit, N: Drop> NativeBack<E, N> {
-    // Room for what so many natives leave.
+    // Makes room for what so many natives leave.
     fn with_capacity(alloc: Global, count: usize) -> Result<NativeBack<E, N>, AllocError>
         ensures keys { IfOk result (λ b. (b.keys.items ≡ []) × (count ≤ vec_capacity b.keys)) }
         ensures natives { IfOk result (λ b. (b.natives.items ≡ []) × (count ≤ vec_capacity b.natives)) }
@@ -87,7 +88,7 @@ fn parted<K: TableWords, N: Drop>(
     NativeBack { keys, natives }
 }
 
-// Lets each native run at its seat of ticket locks.
+// Runs each native at its seat of ticket locks.
 fn call_tickets<N: Native + Drop + Send, R: Threads + Wait + Sync>(
     rt: &R,
     alloc: Global,
@@ -115,7 +116,7 @@ fn call_tickets<N: Native + Drop + Send, R: Threads + Wait + Sync>(
     Ok(parted(left, back))
 }
 
-// The homes of so many natives' threads: each is at the CPU of its number.
+// Returns the homes of so many natives' threads: each home is the CPU of the thread's number.
 fn native_homes(count: usize) -> ArrayVec<CpuId, CPUS>
     requires { count ≤ CPUS }
     ensures { result.items ≡ own_homes count }
@@ -127,7 +128,7 @@ fn native_homes(count: usize) -> ArrayVec<CpuId, CPUS>
     homes
 }
 
-// A table of the tower's locks, with the key of each CPU.
+// Opens a table of the tower's locks, with the key of each CPU.
 fn table_for<K: TableWords>(
     alloc: Global,
     cpus: u8,
@@ -143,7 +144,7 @@ fn table_for<K: TableWords>(
     Shared::open(alloc, blocks, cpus)
 }
 
-// Closes the table of natives that have come back, and tells what they left.
+// Closes the table of natives whose threads were joined, and returns what they left.
 fn closed<K: TableWords, N: Drop>(
     shared: Shared<TowerEdit, K>,
     back: NativeBack<TowerEdit, N>,
@@ -160,23 +161,23 @@ fn closed<K: TableWords, N: Drop>(
     }
 }
 
-/// Runs natives, each in a thread of its own and at a CPU of its own, over one table of shared words with
-/// a buffer of each of these capacities, and gives them back, in their order, with what is left in the
-/// buffers. The locks of the table are ticket locks.
+/// Runs natives, each in its own thread and on its own CPU. They share one table of shared words
+/// with a buffer of each of these capacities. Returns the natives, in their order, with what is
+/// left in the buffers. The locks of the table are ticket locks.
 ///
-/// Each native calls as the thread of its CPU's number, and keeps what it promises of itself and of its
-/// calls. The calls of all have one order that keeps each native's own, is a run of first-in first-out
-/// buffers and ends in what is left. So what was put into a buffer is what was taken from it, in that
-/// order, and then what is left in it.
+/// Each native calls as the thread of its CPU's number, and keeps what it promises of itself and of
+/// its calls. The calls of all have one order. It keeps each native's order, is a legal history of
+/// FIFO buffers and ends in what is left. Therefore the values put into a buffer are, in that
+/// order, the values taken from it, followed by what is left in it.
 ///
-/// It waits for its natives, so it need not return. All memory is taken and all threads are known to have
-/// started before any call is made.
+/// It waits for its natives, so it need not return. All memory is taken and all threads are known
+/// to have started before any call is made.
 ///
-/// Requires: from 1 to `CPUS` natives, at most `BUFFERS` buffers, each for 1 to `CAPACITY` messages, and
-/// the buffers are as each native needs them.
+/// Requires: from 1 to `CPUS` natives, at most `BUFFERS` buffers, each for 1 to `CAPACITY`
+/// messages, and the buffers are as each native requires.
 ///
-/// Errors: `NoMemory` where memory was refused and `NoThread` where a thread could not be started;
-/// then no call was made, and the threads that were started are joined.
+/// Errors: `NoMemory` if an allocation failed, and `NoThread` if a thread could not be started.
+/// Then no call was made, and the threads that were started are joined.
 pub fn run_native<N: Native + Drop + Send, R: Threads + Wait + Sync>(
     rt: &R,
     alloc: Global,

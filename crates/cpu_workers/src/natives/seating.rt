@@ -1,4 +1,4 @@
-//! Natives over machines of their own sides: from before their first calls to what they leave.
+//! Natives over their own sides of a machine: from before their first calls to what they leave.
 
 ghost use Rattle.std.specs.Prelude.{◌≡◌, ℕ, ◌<◌, ◌≤◌, Some, [], All, IfOk, length, slice_get, vec_capacity};
 ghost use Rattle.layer_traits.specs.{Blocks.{Capacities.caps_in, QueueBlocks.{homes_in, inner}, BufferEffects.opening_locks}, Threads.OnePlace.cpu_at};
@@ -25,7 +25,8 @@ pub(crate) struct LeftNative<M: Drop, N: Drop> {
     pub(crate) native: N,
 }
 
-// The natives before their first calls, each at the thread of its number and over its machine.
+// Makes the tasks of the natives before their first calls, each for the thread of its number and
+// over its machine.
 fn tasks_over<I: CallLayer<IpcLaw> + Drop, N: Native + Drop>(
     alloc: Global,
     caps: &[u8],
@@ -67,7 +68,7 @@ where
     Ok(tasks)
 }
 
-// What one native leaves.
+// Returns what one native leaves.
 fn left_by<I: CallLayer<IpcLaw> + Drop, N: Native + Drop>(
     task: NativeTask<I, N>,
 ) -> LeftNative<I::Machine, N>
@@ -85,7 +86,7 @@ where
     }
 }
 
-// What all natives leave, put into the list, which has room.
+// Puts what all natives leave into the list, which has room.
 fn all_left<I: CallLayer<IpcLaw> + Drop, N: Native + Drop>(
     done: Vec<NativeTask<I, N>>,
     mut left: Vec<LeftNative<I::Machine, N>>,
@@ -105,7 +106,7 @@ where
     left
 }
 
-// Lets each native run over its machine, as `call_over` does, whatever the layers beneath the calls are.
+// Runs each native over its machine, as `call_over` does, whatever the layers under the calls are.
 pub(crate) fn call_each<
     I: CallLayer<IpcLaw> + Drop + Send,
     N: Native + Drop + Send,
@@ -143,11 +144,11 @@ where
     Ok(all_left::<I, N>(done.into_done(), left))
 }
 
-/// Lets each native run over its machine, in a thread of its own, and gives what they leave, in their
-/// order. All memory is taken before any call. It alone names the layers of the tower, each of which
-/// makes a proof above it dearer.
+/// Runs each native over its machine, in its own thread, and returns what they leave, in their
+/// order. All memory is taken before any call. Only this function names the layers of the tower,
+/// each of which makes a proof over it more costly.
 ///
-/// Errors: `NoMemory` where memory was refused and `NoThread` where a thread could not be started;
+/// Errors: `NoMemory` if an allocation failed, and `NoThread` if a thread could not be started;
 /// then no call was made.
 pub(crate) fn call_over<
     L: Layer<LockLaw<TowerEdit>> + Drop + Send,

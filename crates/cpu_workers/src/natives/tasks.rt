@@ -1,4 +1,4 @@
-//! A native in a thread of its own.
+//! A native in its own thread.
 
 ghost use Rattle.std.specs.Prelude.{◌≡◌, []};
 

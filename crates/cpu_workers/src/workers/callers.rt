@@ -1,4 +1,4 @@
-//! Callers: native threads that send to buffers and receive from them, each at a CPU of its own. No
+//! Callers: native threads that send to buffers and receive from them, each on its own CPU. No
 //! call takes memory. `send`, `recv` and `close` wait for other CPUs.
 
 ghost use Rattle.std.specs.Prelude.{◌≡◌, ◌<◌, ◌≤◌, false, [], MatchOption, if◌then◌else◌, is_ok, length};
@@ -15,8 +15,9 @@ use std::marker::Model;
 use std::sync::Wait;
 use thiserror::Error;
 
-/// How many calls a caller makes at most, 2^59: as many as a million a second are in eighteen thousand
-/// years. The op and the pos of an entry count the calls of all callers, and are numbers of 64 bits.
+/// How many calls a caller makes at most, 2^59: as many as a million per second in eighteen
+/// thousand years. The op and the pos of an entry count the calls of all callers, and are numbers
+/// of 64 bits.
 pub const MOST_CALLS: u64 = 0x0800_0000_0000_0000;
 
 /// Why a message was not sent: its buffer is closed.
@@ -24,10 +25,10 @@ pub const MOST_CALLS: u64 = 0x0800_0000_0000_0000;
 #[error("Closed(16)")]
 pub struct Closed;
 
-/// One native thread that sends to buffers and receives from them, at a CPU of its own: that CPU's part
-/// of the layer of message calls with a machine of its own side. A contract sees it as plain data:
-/// which CPU and thread it is, the buffers' capacities, which machine, and the entries of its calls so
-/// far, oldest first.
+/// One native thread that sends to buffers and receives from them, on its own CPU. It has that
+/// CPU's part of the layer of message calls, and its own side of the machine. A contract sees it
+/// as plain data: which CPU and thread it is, the buffers' capacities, which machine, and its
+/// calls' entries, oldest first.
 #[derive(Drop)]
 pub struct Caller<I: CallLayer<IpcLaw> + Drop>
 where
@@ -73,8 +74,8 @@ where
     ghost use Rattle.layer_traits.specs.{Blocks.QueueBlocks.inner, Polling.Plans.is_in_section};
     ghost use Rattle.cpu_workers.specs.{declared.workers.callers.TheConstants.MOST_CALLS, Orders.IsTraceOf};
 
-    /// The caller of a thread of this CPU before its first call, over a machine of its own side in which
-    /// nothing was done, with threads of these homes and so many buffers.
+    /// Makes the caller of a thread of this CPU before its first call. Nothing was done in the
+    /// caller's own side of the machine, which has threads of these homes and so many buffers.
     ///
     /// Requires: the machine is fresh for the CPU, and has room at any time.
     pub fn new(
@@ -106,7 +107,7 @@ where
         }
     }
 
-    // Does one call. Where no more may be made, it waits forever.
+    // Makes one call. If no more calls may be made, it waits forever.
     fn make<R: Wait>(&mut self, rt: &R, call: &Call) -> Reply
         requires { (buffer_of call.now).0 < length self.old.caps }
         ensures { HasCalled self.old self.new call.now result }
@@ -127,12 +128,12 @@ where
         unreachable!()
     }
 
-    /// Sends a message, once the buffer has room and it is the thread's turn. It is one call: one entry
-    /// more, of kind `Send`, or `SendClosed` at `Err`, where nothing was put.
+    /// Sends a message, once the buffer has room and the thread is first in its queue. It is one
+    /// call: one more entry, of kind `Send`, or `SendClosed` at `Err`, when nothing was put.
     ///
     /// It waits for other CPUs, so it need not return.
     ///
-    /// Requires: there is such a buffer. Errors: `Closed` where the buffer is closed by then.
+    /// Requires: there is such a buffer. Errors: `Closed` if the buffer is closed by then.
     pub fn send<R: Wait>(&mut self, rt: &R, to: BufId, message: &Msg) -> Result<(), Closed>
         requires { to.0 < length self.old.caps }
         ensures { HasMadeCall self.old self.new (if is_ok result then kind.Send else kind.SendClosed) to message.now }
@@ -143,9 +144,9 @@ where
         }
     }
 
-    /// Receives the first message of the buffer, once there is one and it is the thread's turn; `None`
-    /// where the buffer is closed and empty by then. It is one call: one entry more, of kind `Recv`, or
-    /// `RecvClosed` at `None`.
+    /// Receives the first message of the buffer, once there is one and the thread is first in its
+    /// queue. It returns `None` if the buffer is closed and empty by then. It is one call: one more
+    /// entry, of kind `Recv`, or `RecvClosed` at `None`.
     ///
     /// It waits for other CPUs, so it need not return.
     ///
@@ -161,7 +162,8 @@ where
         }
     }
 
-    /// Closes the buffer, which may be closed already. It is one call: one entry more, of kind `Close`.
+    /// Closes the buffer, which may be closed already. It is one call: one more entry, of kind
+    /// `Close`.
     ///
     /// It waits for other CPUs, so it need not return.
     ///
@@ -173,9 +175,9 @@ where
         let _ = self.make(rt, &Call::Close(buffer));
     }
 
-    /// The machine of a caller that makes no more calls. Where one poll is one action, the caller's calls
-    /// are, once and in their order, its CPU's effects in the actions that the machine has seen, and no
-    /// section of the CPU is under way.
+    /// Returns the machine of a caller that makes no more calls. If one poll is one action, the
+    /// caller's calls are, once each and in order, its CPU's effects in the machine's actions. No
+    /// section of the CPU is then under way.
     pub fn into_machine(self) -> I::Machine
         ensures owns { I.ActsFor result self.cpu }
         ensures site { I.site result ≡ self.site }

@@ -1,4 +1,4 @@
-//! One message call of a native thread, polled until it answers. It takes no memory, and waits for
+//! One message call of a native thread, polled until it returns. It takes no memory, and waits for
 //! other CPUs.
 
 ghost use Rattle.std.specs.Prelude.{◌≡◌, ◌≢◌, ◌<◌, None, Some, IfOk, IfErr, length};
@@ -24,8 +24,8 @@ pub(crate) enum Begun {
     Passes(Pass),
 }
 
-// What a CPU with nothing under way polls next for the call of `t`. A thread in its hand goes home
-// first.
+// Chooses what a CPU with nothing under way polls next for the call of `t`. A thread in its hand is
+// forwarded first.
 fn choose<I: CallLayer<IpcLaw>>(part: &I, t: Tid) -> Begun
     ensures may { MayBegin t (threads_in (I.own part.now)) result }
     ensures hand { result ≡ Calls → (threads_in (I.own part.now)).hand ≡ None }
@@ -42,7 +42,7 @@ fn choose<I: CallLayer<IpcLaw>>(part: &I, t: Tid) -> Begun
     }
 }
 
-// One poll of a pass. Tells whether it goes on.
+// Polls a pass once. Returns whether the pass is still under way.
 fn poll_pass<I: CallLayer<IpcLaw>>(
     part: &mut I,
     m: &mut I::Machine,
@@ -72,7 +72,7 @@ fn poll_pass<I: CallLayer<IpcLaw>>(
     }
 }
 
-// One poll of the call of `t`, which runs: its reply, or what is under way then.
+// Polls the call of `t`, which runs, once: returns its reply, or what is under way then.
 fn poll_call<I: CallLayer<IpcLaw>>(
     part: &mut I,
     m: &mut I::Machine,
@@ -104,7 +104,7 @@ fn poll_call<I: CallLayer<IpcLaw>>(
     }
 }
 
-// One look, or one poll of what is under way, or of what comes next for the call of `t`: the call's
+// Polls once: a lock, what is under way, or what is next for the call of `t`. Returns the call's
 // reply, or what is under way then.
 fn poll_once<I: CallLayer<IpcLaw>>(
     part: &mut I,
@@ -143,15 +143,15 @@ fn poll_once<I: CallLayer<IpcLaw>>(
     }
 }
 
-/// Does one message call of the thread `t`, whose CPU has nothing under way, and gives its reply: the
-/// CPU is polled until the call has answered. The call had exactly one effect, which is the CPU's one
-/// new entry, and the reply is that effect's. By the CPU's manners, kept from call to call, it may wait a
-/// little before it asks for a buffer's lock.
+/// Makes one message call of the thread `t`, whose CPU has nothing under way, and returns its
+/// reply. It polls the CPU until the call has returned. The call had exactly one effect, which is
+/// the CPU's one new entry, and the reply is that effect's. Under the CPU's backoff, kept from call
+/// to call, it may wait a little before it requests a buffer's lock.
 ///
 /// It waits for other CPUs, so it need not return. No call takes memory.
 ///
-/// Requires: the buffer's number is one of the machine's, which has room at any time. No call of `t` is
-/// under way.
+/// Requires: the buffer's number is one of the machine's, which has room at any time. No call of
+/// `t` is under way.
 pub fn call<I: CallLayer<IpcLaw>, R: Wait>(
     rt: &R,
     part: &mut I,
@@ -188,9 +188,7 @@ where
             Err(goes_on) => begun = goes_on,
         }
         spins = manners.after(part, m, spins);
-        if idler.after(part) {
-            m.park_native(rt, idler.cpu, idler.rung);
-        }
+        idler.after_poll(rt, part, m);
     }
     unreachable!()
 }

@@ -1,6 +1,7 @@
-//! When a worker or a caller asks for a buffer's lock. Where two CPUs hand it to each other with each
-//! call, each lets the other go on until nobody draws there. So many calls of one follow each other. A wait
-//! has an end, and nothing but the moment of a turn or a poll changes.
+//! Backoff: when a worker or a caller requests a buffer's lock. If two CPUs pass a lock between
+//! them with each call, each of them waits until no CPU draws a ticket there. Therefore many calls
+//! of one CPU follow each other. A wait is bounded, and it changes nothing except the moment of a
+//! turn or a poll.
 
 ghost use Rattle.std.specs.Prelude.{◌≡◌, ◌<◌, ◌≤◌, false};
 ghost use Rattle.layer_traits.specs.Views.OwnParts.{threads_in};
@@ -13,38 +14,42 @@ use event_log::BufId;
 use layer_traits::{CallLayer, IpcLaw};
 use std::thread;
 
-// After so many sleeps it is judged whether to wait: if they came with so few calls, and if no more tickets
-// were drawn meanwhile for each of these than two CPUs draw for a call each. They draw 12 at a buffer with
-// room and items, 18 where each call waits for the other's; four CPUs draw 24.
+// After so many sleeps the CPU decides whether to back off. It does so if both hold:
+// - at most `WATCHED` calls were made meanwhile;
+// - no more tickets were drawn per call than two CPUs draw for a call each.
+//
+// Two CPUs draw 12 tickets at a buffer with room and items, and 18 if each call waits for the other
+// CPU's. Four CPUs draw 24.
 const SLEEPS: u16 = 16;
 
 const WATCHED: usize = 22;
 
 const DRAWS: u64 = 15;
 
-// How many turns a worker that waits takes at once: for so many a thread that its call wakes is in its hand.
+// How many turns a worker that backs off takes at once: for so many turns a thread that its call
+// wakes is in its hand.
 const WATCHFUL: usize = 3;
 
-// After so many waits it is judged whether they pay: if so many calls came with them. They do once the
-// other CPU waits too, which begins to after as many sleeps.
+// After so many waits the CPU decides whether they pay: they do if so many calls were made
+// meanwhile. That is so once the other CPU backs off too, which begins after as many sleeps.
 const WAITS: u16 = 16;
 
 const PAYS: usize = 64;
 
-// For how many calls it waits no more where they did not, at first and at most.
+// For how many calls the CPU does not back off after waits that did not pay: at first, and at most.
 const FIRST_REST: usize = 1_000;
 
 const LAST_REST: usize = 32_000;
 
-// For how many pauses the sleeper to whom it handed the lock may take to come.
+// How many pauses the sleeper to which the CPU passed the lock may take to arrive.
 const PATIENCE: u16 = 4;
 
-// How many pauses a wait has at most, and how often a pause lets other threads run.
+// How many pauses a wait has at most, and how often a pause yields the processor.
 const MOST_PAUSES: u16 = 100;
 
 const YIELDS: u16 = 6;
 
-// What was last between two sections that bears on the next call.
+// The last event between two sections that bears on the next call.
 #[derive(Clone, Copy, Drop)]
 enum News {
     Nothing,
@@ -52,7 +57,7 @@ enum News {
     Slept,
     // A section woke a thread of another CPU.
     Woke,
-    // That thread was sent home.
+    // That thread was forwarded to its home CPU.
     Sent,
 }
 
@@ -64,18 +69,19 @@ pub struct Manners {
     // How many calls the CPU has made, and the buffer of the newest.
     made: usize,
     last: Option<BufId>,
-    // How many it had made, and how many tickets were drawn, where it began to count.
+    // How many it had made, and how many tickets were drawn, when it began to count.
     since: usize,
     drawn: u64,
     // How many sleeps it has counted, or how many waits.
     counted: u16,
-    // So many calls it is to have made before it counts again, and for how many more after the next.
+    // How many calls it must have made before it counts again, and for how many more after the
+    // next.
     rests_until: usize,
     next_rest: usize,
 }
 
 impl Manners {
-    /// Of a CPU that has made no call.
+    /// Returns the state of a CPU that has made no call.
     pub fn new() -> Manners {
         Manners {
             news: News::Nothing,
@@ -90,12 +96,13 @@ impl Manners {
         }
     }
 
-    // Whether there are news.
+    // Returns whether an event was noted.
     fn is_alert(&self) -> bool {
         !matches!(&self.news, News::Nothing)
     }
 
-    // How many of so many turns the worker takes at once, so that it meets what is news to it.
+    // Returns how many of so many turns the worker takes at once, so that it meets the events that
+    // it notes.
     #[inline(always)]
     pub(crate) fn at_most(&self, most: usize) -> usize
         requires { 0 < most }
@@ -108,7 +115,7 @@ impl Manners {
         if self.waits { most.min(WATCHFUL) } else { most }
     }
 
-    // A caller is about to call at this buffer.
+    // Notes that a caller is about to call at this buffer.
     #[inline(always)]
     pub(crate) fn begin<H: Hints>(&mut self, machine: &H, buffer: BufId) {
         self.made = self.made.saturating_add(1);
@@ -120,7 +127,7 @@ impl Manners {
         }
     }
 
-    // What a worker does after a turn.
+    // Does what a worker does after a turn.
     #[inline(always)]
     pub(crate) fn after_turn<I: CallLayer<IpcLaw> + Drop>(
         &mut self,
@@ -138,9 +145,9 @@ impl Manners {
         self.after(worker.part(), worker.machine(), spins)
     }
 
-    // What a CPU does after a turn, or after a poll of a caller: it looks again at its lock, lets other
-    // threads run, or waits before it asks for a buffer's lock. Tells how many looks are left before it
-    // lets others run.
+    // Does what a CPU does after a turn, or after a poll of a caller. The CPU polls its lock again,
+    // yields the processor, or waits before it requests a buffer's lock. Returns how many polls are
+    // left before it yields.
     #[inline(always)]
     pub(crate) fn after<I: CallLayer<IpcLaw>>(
         &mut self,
@@ -164,7 +171,7 @@ impl Manners {
         SPINS
     }
 
-    // Inside a section, where the CPU waits at times: so it meets a thread that it wakes.
+    // Notes a thread that the CPU wakes, inside a section of a CPU that backs off.
     fn inside(&mut self, hand: bool) {
         if hand {
             self.news = News::Woke;
@@ -173,7 +180,7 @@ impl Manners {
         }
     }
 
-    // Between two sections, with news, or where some begin. It stands out of line: few turns come here.
+    // Notes events between two sections. It is not inlined, because few turns reach it.
     #[cold]
     #[inline(never)]
     fn mind<I: CallLayer<IpcLaw>>(&mut self, part: &I, machine: &I::Machine, spins: u16) -> u16
@@ -192,7 +199,7 @@ impl Manners {
         pause(false, idle, spins)
     }
 
-    // A thread runs, and nobody is in the CPU's hand.
+    // Chooses whether to wait, while a thread runs and the CPU's hand is empty.
     fn choose<H: Hints>(&mut self, machine: &H) {
         match self.news {
             News::Nothing => {}
@@ -208,8 +215,8 @@ impl Manners {
         }
     }
 
-    // The thread that runs goes on after it slept, or is about to call, where its last call woke a thread
-    // of another CPU (`gave`).
+    // Decides on a wait for the thread that runs. The thread continues after it slept, or it is
+    // about to call and its last call woke a thread of another CPU (`gave`).
     fn occasion<H: Hints>(&mut self, machine: &H, gave: bool) {
         if self.made < self.rests_until {
             return;
@@ -223,8 +230,9 @@ impl Manners {
         }
     }
 
-    // The thread that runs has slept. Where it does so with nearly every call, and draws of two CPUs alone
-    // come between two of them at the buffer's lock, the CPU begins to wait.
+    // Counts a sleep of the thread that runs. If two conditions hold, the CPU begins to back off.
+    // The thread sleeps in nearly every call. Between two sleeps, only two CPUs draw tickets at the
+    // buffer's lock.
     fn watch(&mut self, next: u64) {
         if self.counted == 0 {
             self.since = self.made;
@@ -258,7 +266,7 @@ impl Manners {
         }
     }
 
-    // Waits no more for a while, each time for four times as long.
+    // Turns backoff off for a while, each time for four times as long.
     fn rest(&mut self) {
         self.waits = false;
         self.counted = 0;
@@ -269,7 +277,7 @@ impl Manners {
     }
 }
 
-// Whether nobody runs on the CPU, is in its hand or is ready there.
+// Returns whether no thread runs on the CPU, is in its hand or is ready there.
 pub(crate) fn is_idle<I: CallLayer<IpcLaw>>(part: &I) -> bool
     ensures { result ≡ is_idle (threads_in (I.own part.now)).current (threads_in (I.own part.now)).hand (threads_in (I.own part.now)).ready }
 {
@@ -279,8 +287,9 @@ pub(crate) fn is_idle<I: CallLayer<IpcLaw>>(part: &I) -> bool
     }
 }
 
-// Pauses until nobody draws at the buffer's lock, and so many pauses before that: at most `MOST_PAUSES`
-// times. Tells how often.
+// Pauses until the lock is still: no CPU drew a ticket at the buffer's lock during one pause. If
+// none was drawn since the start, it pauses `patience` times. Returns the number of pauses, at most
+// `MOST_PAUSES`.
 fn await_still<H: Hints>(machine: &H, buffer: BufId, patience: u16) -> u16
     ensures { result ≤ MOST_PAUSES }
 {
@@ -302,7 +311,7 @@ fn await_still<H: Hints>(machine: &H, buffer: BufId, patience: u16) -> u16
     MOST_PAUSES
 }
 
-// Lets other threads run.
+// Yields the processor `YIELDS` times.
 fn breathe() {
     for _ in 0..YIELDS {
         thread::yield_now();

@@ -1,4 +1,4 @@
-//! What the workers of a plan leave behind. No call takes memory or waits.
+//! What the workers of a plan leave. No call takes memory or waits.
 
 ghost use Rattle.std.specs.Prelude.{◌≡◌, Some, All};
 ghost use Rattle.{layer_traits.specs.Protocols.OneLock.opened, table_machine.specs.SeatViews.{ClosesTable, Covers, IsOver}};
@@ -14,9 +14,9 @@ use layer_traits::QueueBlock;
 use std::snapshot::Snapshot;
 use table_machine::{Key, Shared};
 
-/// What the workers of a plan leave behind. The lists of CPUs have one element for each CPU, by its
-/// number. It is evidence: it is made here alone, of a table of shared words that was closed with the
-/// keys of its CPUs.
+/// What the workers of a plan leave. The lists of CPUs have one element for each CPU, by its
+/// number. It is evidence: only this module makes it, of a table of shared words that was closed
+/// with the keys of its CPUs.
 #[derive(Drop)]
 pub struct Report {
     /// The entries of each CPU's calls that took effect, oldest first.
@@ -30,7 +30,7 @@ pub struct Report {
     closed: ClosedTable,
 }
 
-/// What tells of a table that was closed: the kind of its words, and the blocks that it gave.
+/// Evidence of a table that was closed: the kind of its words, and the blocks that it returned.
 #[derive(Drop)]
 struct ClosedTable {
     lock: LockKind,
@@ -40,7 +40,8 @@ struct ClosedTable {
 impl Report {
     ghost use Rattle.cpu_workers.specs.Seating.{items_of_block};
 
-    // Closes a table of shared words with the keys of its CPUs, and tells what they left beside them.
+    // Closes a table of shared words with the keys of its CPUs, and returns a report of what they
+    // left besides.
     pub(crate) fn of_closed<K: PlanWords>(
         shared: Shared<TowerEdit, K>,
         keys: Vec<Key<TowerEdit>>,
@@ -71,14 +72,14 @@ impl Report {
         }
     }
 
-    /// The kind of the words of the table's locks.
+    /// Returns the kind of the words of the table's locks.
     pub fn lock(&self) -> LockKind
         ensures { result ≡ self.now.closed.lock }
     {
         self.closed.lock
     }
 
-    /// The traces and the stops.
+    /// Returns the traces and the stops.
     pub fn into_parts(self) -> (Vec<Vec<Entry>>, Vec<Stop>)
         ensures traces { result.0 ≡ self.traces }
         ensures stops { result.1 ≡ self.stops }
@@ -87,8 +88,8 @@ impl Report {
         (traces, stops)
     }
 
-    /// What `buffer` holds, front first: what the report tells of its block. Where there is no such
-    /// buffer it is nothing.
+    /// Returns what `buffer` holds, front first, according to the report's blocks. If there is no
+    /// such buffer, it returns nothing.
     pub fn items(&self, buffer: BufId) -> ArrayVec<Msg, CAPACITY>
         ensures { result.items ≡ items_of_block self.now.blocks.items buffer }
     {
@@ -96,7 +97,7 @@ impl Report {
     }
 }
 
-// The items of the buffer at a lock, the first that these blocks tell.
+// Returns the items of the buffer at a lock, according to the first of these blocks with that lock.
 pub(crate) fn items_at(blocks: &[(LockId, TowerBlock)], lock: LockId) -> ArrayVec<Msg, CAPACITY>
     ensures { result.items ≡ messages_in (block_shown (opened blocks.now lock)) }
 {
@@ -108,7 +109,7 @@ pub(crate) fn items_at(blocks: &[(LockId, TowerBlock)], lock: LockId) -> ArrayVe
     ArrayVec::new()
 }
 
-// The items of a buffer's block; of a queue's there are none.
+// Returns the items of a buffer's block; a queue's block has none.
 fn items_of(block: &TowerBlock) -> ArrayVec<Msg, CAPACITY>
     ensures { result.items ≡ messages_in (block_shown (Some block.now)) }
 {

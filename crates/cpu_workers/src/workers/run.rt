@@ -27,7 +27,7 @@ use std::sync::Wait;
 use std::thread::Threads;
 use table_machine::{Key, Shared, TableWords};
 
-// What workers leave behind at a table, by CPU: their keys, traces, stops and turns.
+// What workers leave at a table, by CPU: their keys, traces, stops and turns.
 #[derive(Drop)]
 struct Back<E: SplitEdit> {
     keys: Vec<Key<E>>,
@@ -37,7 +37,7 @@ struct Back<E: SplitEdit> {
 }
 
 impl<E: SplitEdit> Back<E> {
-    // Room for what so many workers leave.
+    // Makes room for what so many workers leave.
     fn with_capacity(alloc: Global, count: usize) -> Result<Back<E>, AllocError>
         ensures keys { IfOk result (λ b. (b.keys.items ≡ []) × (count ≤ vec_capacity b.keys)) }
         ensures traces { IfOk result (λ b. (b.traces.items ≡ []) × (count ≤ vec_capacity b.traces)) }
@@ -53,7 +53,7 @@ impl<E: SplitEdit> Back<E> {
     }
 }
 
-// A seat for each key.
+// Makes a seat for each key.
 pub(crate) fn seats_at<'a, K: TableWords>(
     alloc: Global,
     shared: &'a Shared<TowerEdit, K>,
@@ -111,8 +111,8 @@ fn parted<K: TableWords>(
     }
 }
 
-// Lets a worker of each CPU run at its seat of locks whose words are read as those of ticket locks,
-// as the words of any lock may be.
+// Runs a worker of each CPU at its seat. The words of the seat's locks are read as those of ticket
+// locks, as the words of any lock may be.
 fn run_tickets<K: PlanWords + Sync, G: Gate + Sync, R: Threads + Wait + Sync>(
     rt: &R,
     alloc: Global,
@@ -136,7 +136,7 @@ fn run_tickets<K: PlanWords + Sync, G: Gate + Sync, R: Threads + Wait + Sync>(
     Ok(parted(left, back))
 }
 
-// The table of a plan, with the key of each CPU.
+// Opens the table of a plan, with the key of each CPU.
 fn table_of<K: TableWords>(
     alloc: Global,
     boot: &Boot,
@@ -153,7 +153,7 @@ fn table_of<K: TableWords>(
     Shared::open(alloc, blocks, boot.cpus())
 }
 
-// Closes the table of workers that have come back, and tells what they left.
+// Closes the table of workers whose threads were joined, and returns a report of what they left.
 fn closed<K: PlanWords>(shared: Shared<TowerEdit, K>, back: Back<TowerEdit>) -> Report
     requires covers { Covers shared.cpus back.keys.items }
     requires keys { All (IsOver shared) back.keys.items }
@@ -198,24 +198,26 @@ fn run_words<K: PlanWords + Sync, G: Gate + Sync, R: Threads + Wait + Sync>(
 }
 
 /// Runs a plan with a worker thread for each CPU, each at its own seat at one table of shared
-/// words, under a gate. The locks of the table are of the plan's kind. A worker stops between two of
-/// its sections, as [`crate::work`] says: where its CPU is halted, where the gate has answered
-/// `Limit`, or where `turns` turns are taken. Between two sections it takes a turn only below
-/// `turns`, and only where the gate, which was asked at each turn so far with the number of turns
-/// taken, may have answered `Pass` each time. The gate is asked before each turn, also inside a
-/// section, or has told that it is open there, until it answers `Limit`; where it may not have answered
-/// `Pass` at each, no worker stops as `TurnsUsed`.
+/// words, under a gate. The locks of the table are of the plan's kind.
 ///
-/// The report is lawful by the plan's step table. The list of actions by which it is, and the order of
-/// its traces, are those of one words log, which is legal over the locks as the plan opens them.
-/// Under some schedule the step table's system leaves just what the report tells. The report is of
-/// a table of shared words that was closed, whose locks are of the plan's kind and whose blocks these are.
+/// A worker stops between two of its sections, as [`crate::work`] says. It stops if its CPU is
+/// halted, if the gate has returned `Limit`, or if `turns` turns are taken. Between two sections it
+/// takes a turn only below `turns`, and only if the gate may have returned `Pass` at each turn so
+/// far. The gate is asked with the number of turns taken before each turn, also inside a section,
+/// until it returns `Limit`. It is not asked at turns for which it has granted that it is open. If
+/// it may not have returned `Pass` at each turn, no worker stops as `TurnsUsed`.
 ///
-/// It waits for its workers, so it need not return. All memory is taken and all workers are known to
-/// have started before any step is taken.
+/// The report is lawful under the plan's step table. Its list of actions, and the order of its
+/// traces, are those of one words log. That log is legal over the locks as the plan opens them.
+/// Under some schedule the step table's system leaves exactly what the report gives. The report is
+/// of a table of shared words that was closed, whose locks are of the plan's kind and whose blocks
+/// these are.
 ///
-/// Errors: `NoMemory` where memory was refused and `NoThread` where a thread could not be started;
-/// then no step was taken, and the threads that were started are joined.
+/// It waits for its workers, so it need not return. All memory is taken and all workers are known
+/// to have started before any step is taken.
+///
+/// Errors: `NoMemory` if an allocation failed, and `NoThread` if a thread could not be started.
+/// Then no step was taken, and the threads that were started are joined.
 pub fn run_workers<G: Gate + Sync, R: Threads + Wait + Sync>(
     rt: &R,
     alloc: Global,
@@ -227,7 +229,7 @@ pub fn run_workers<G: Gate + Sync, R: Threads + Wait + Sync>(
         (shown (map (λ t. t.items) r.traces.items) r.taken.items r.stops.items r.blocks.items)) }
     ensures words { IfOk result (λ r. HasWords boot.now (G.MayAnswer gate.now) turns
         (shown (map (λ t. t.items) r.traces.items) r.taken.items r.stops.items r.blocks.items)) }
-    // What the threads did, the step table's system does under some schedule.
+    // Simulation: what the threads did, the step table's system does under some schedule.
     ensures is_run { IfOk result (λ r. IsReportOfRun (setup_for boot.now) (G.MayAnswer gate.now) turns
         (shown (map (λ t. t.items) r.traces.items) r.taken.items r.stops.items r.blocks.items)) }
     ensures lock { IfOk result (λ r. r.closed.lock ≡ boot.now.lock) }

@@ -1,5 +1,5 @@
-//! The workers of a plan, each over a machine of its own side: from before their first turn to what
-//! they leave.
+//! The workers of a plan, each over its own side of a machine: from before their first turn to
+//! what they leave.
 
 ghost use Rattle.std.specs.Prelude.{◌≡◌, ℕ, ◌<◌, ◌≤◌, Some, [], IfOk, length, slice_get, vec_capacity};
 ghost use Rattle.layer_traits.specs.{Blocks.{Capacities.caps_in, QueueBlocks.{homes_in, inner}, BufferEffects.opening_locks}, Threads.OnePlace.cpu_at};
@@ -32,7 +32,7 @@ pub(crate) struct Left<M: Drop> {
     pub(crate) did: Did,
 }
 
-// The worker of a CPU of the plan before its first turn.
+// Makes the worker of a CPU of the plan before its first turn.
 fn worker_over<I: CallLayer<IpcLaw> + Drop>(
     alloc: Global,
     boot: &Boot,
@@ -64,7 +64,7 @@ where
     )
 }
 
-// The workers of all CPUs of the plan before their first turn, each over its machine.
+// Makes the workers of all CPUs of the plan before their first turn, each over its machine.
 fn workers_over<I: CallLayer<IpcLaw> + Drop>(
     alloc: Global,
     boot: &Boot,
@@ -98,7 +98,7 @@ where
     Ok(workers)
 }
 
-// What one worker leaves.
+// Takes one worker apart into what it leaves.
 fn apart<I: CallLayer<IpcLaw> + Drop>(came: Came<I>) -> Left<I::Machine>
 where
     I::Machine: Drop,
@@ -116,7 +116,7 @@ where
     }
 }
 
-// What all workers leave, put into the list, which has room.
+// Puts what all workers leave into the list, which has room.
 fn all_apart<I: CallLayer<IpcLaw> + Drop>(
     came: Vec<Came<I>>,
     mut left: Vec<Left<I::Machine>>,
@@ -135,8 +135,8 @@ where
     left
 }
 
-// Lets a worker of each CPU of the plan run over its machine, as `run_over` does, whatever the layers
-// beneath the calls are.
+// Runs a worker of each CPU of the plan over its machine, as `run_over` does, whatever the layers
+// under the calls are.
 pub(crate) fn run_each<
     I: CallLayer<IpcLaw> + Drop + Send,
     G: Gate + Sync,
@@ -170,11 +170,11 @@ where
     Ok(all_apart::<I>(came.into_done(), left))
 }
 
-/// Lets a worker of each CPU of the plan run over its machine, each in a thread of its own, and gives
-/// what they leave, by CPU. All memory is taken before any step. It alone names the layers of the tower,
-/// each of which makes a proof above it dearer.
+/// Runs a worker of each CPU of the plan over its machine, each in its own thread, and returns
+/// what they leave, by CPU. All memory is taken before any step. Only this function names the
+/// layers of the tower, each of which makes a proof over it more costly.
 ///
-/// Errors: `NoMemory` where memory was refused and `NoThread` where a thread could not be started;
+/// Errors: `NoMemory` if an allocation failed, and `NoThread` if a thread could not be started;
 /// then no step was taken.
 pub(crate) fn run_over<
     L: Layer<LockLaw<TowerEdit>> + Drop + Send,

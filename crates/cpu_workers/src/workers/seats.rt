@@ -12,11 +12,12 @@ use std::marker::Model;
 use std::sync::Wait;
 use table_machine::{Key, Seat, Shared, TableWords};
 
-/// How many turns a worker at a seat takes at once, at most: so long an idle CPU may keep its processor.
+/// How many turns a worker at a seat takes at once, at most: an idle CPU may keep its processor for
+/// so long.
 pub(crate) const STRETCH: usize = 16;
 
-/// A seat at a table of the tower's locks, whatever their words are: a [`Seat`] under a name of its
-/// own, so that no proof above it has to compare the tower's edits.
+/// A seat at a table of the tower's locks, whatever their words are. It is a [`Seat`] under its
+/// own name, so that no proof over it must compare the tower's edits.
 #[derive(Drop)]
 pub(crate) struct TowerSeat<'a, K: TableWords> {
     seat: Seat<'a, TowerEdit, K>,
@@ -47,9 +48,10 @@ impl<'a, K: TableWords> TowerSeat<'a, K> {
         }
     }
 
-    // Rings the bell of the CPU whose pending queue this CPU has just put a thread into: a CPU's section at the
-    // queue of another puts one there. The ring comes behind the free, so a CPU that read its bell before it
-    // polled its queue finds the thread there or a bell that was rung since.
+    // Rings the bell of the CPU into whose pending queue this CPU has put a thread: the remote
+    // wake-up. A CPU's section at the queue of another CPU puts one there. The ring follows the
+    // release of the lock. Therefore a CPU that read its bell before it polled its queue finds the
+    // thread there, or a bell that was rung since.
     #[inline(always)]
     fn ring_for(&self, cpu: CpuId, lock: LockId) {
         if let LockId::Pending(home) = lock {

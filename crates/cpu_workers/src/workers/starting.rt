@@ -15,7 +15,7 @@ use std::alloc::{AllocError, Global};
 use std::sync::Wait;
 use std::thread::Threads;
 
-/// A worker that has come back from its thread, and what it did there.
+/// A worker whose thread was joined, and what the worker did there.
 #[derive(Drop)]
 pub struct Came<I: CallLayer<IpcLaw> + Drop>
 where
@@ -29,7 +29,7 @@ where
 
 // A worker before its turns, under its gate.
 #[derive(Drop)]
-pub(crate) struct Turning<'a, I: CallLayer<IpcLaw> + Drop, G: Gate>
+struct Turning<'a, I: CallLayer<IpcLaw> + Drop, G: Gate>
 where
     I::Machine: Drop,
 {
@@ -62,7 +62,7 @@ where
     }
 }
 
-// A task for each worker.
+// Returns a task for each worker.
 fn all_turning<'a, I: CallLayer<IpcLaw> + Drop, G: Gate>(
     alloc: Global,
     gate: &'a G,
@@ -85,14 +85,15 @@ where
     Ok(tasks)
 }
 
-/// Lets each worker run in a thread of its own, as `work` does, and gives what the threads left, in
-/// their order: the workers. All memory is taken and all threads are known to have started before any step; all are joined.
+/// Runs each worker in its own thread, as `work` does, and returns what the threads left, in the
+/// workers' order. All memory is taken and all threads are known to have started before any step;
+/// all are joined.
 ///
 /// It waits for its threads, so it need not return.
 ///
 /// Requires: nothing was done in any worker's machine yet.
 ///
-/// Errors: `NoMemory` where memory was refused and `NoThread` where a thread could not be started;
+/// Errors: `NoMemory` if an allocation failed, and `NoThread` if a thread could not be started;
 /// then no step was taken.
 pub fn work_all<I: CallLayer<IpcLaw> + Drop + Send, G: Gate + Sync, R: Threads + Wait + Sync>(
     rt: &R,

@@ -25,8 +25,8 @@ pub struct Did {
     pub stop: Stop,
 }
 
-// How many turns a worker takes before it asks the gate again: more than one only where the gate, which has
-// not answered `Limit`, lets the CPU pass at each, and `turns` allow them.
+// Returns how many turns a worker takes before it asks the gate again. It is more than one only if
+// the gate has not returned `Limit` and lets the CPU pass at each, and `turns` allow them.
 fn at_once<G: Gate>(gate: &G, cpu: CpuId, taken: u64, turns: u64, held: bool) -> usize
     ensures some { 0 < result }
     ensures free { 1 < result → (held ≡ false) × (taken + result ≤ turns) }
@@ -39,12 +39,12 @@ fn at_once<G: Gate>(gate: &G, cpu: CpuId, taken: u64, turns: u64, held: bool) ->
     if open == 0 { 1 } else { open as usize }
 }
 
-// Why a worker whose CPU has no section under way stops, if it does.
+// Returns why a worker whose CPU has no section under way stops, if it does.
 fn ending(halted: Option<Reason>, held: bool, taken: u64, turns: u64) -> Option<Stop>
     requires { halted ≢ Some StepsUsed }
     ensures stops { MatchOption result ((halted ≡ None) × (held ≡ false) × (taken < turns))
         (λ stop. IsTrueStop halted (λ turn. held ≡ true) turns taken stop) }
-    // Where the gate has answered `Limit` too, that is why.
+    // If the gate has returned `Limit` too, that is the reason.
     ensures used { result ≡ Some TurnsUsed → held ≡ false }
 {
     match halted {
@@ -57,8 +57,8 @@ fn ending(halted: Option<Reason>, held: bool, taken: u64, turns: u64) -> Option<
     }
 }
 
-// Asks the gate, and notes whether it holds the worker now. It alone asks, and only where the gate has
-// not answered `Limit` yet.
+// Asks the gate, and notes whether it holds the worker. Only this function asks, and only if the
+// gate has not returned `Limit` yet.
 fn ask<I: CallLayer<IpcLaw> + Drop, G: Gate>(
     gate: &G,
     worker: &Worker<I>,
@@ -74,7 +74,7 @@ where
     *held = gate.pass(worker.number(), taken) == Go::Limit;
 }
 
-// Asks the gate, unless it has answered `Limit` before.
+// Asks the gate, unless it has returned `Limit` before.
 fn ask_if_free<I: CallLayer<IpcLaw> + Drop, G: Gate>(
     gate: &G,
     worker: &Worker<I>,
@@ -92,8 +92,8 @@ where
     }
 }
 
-// What a worker does before a turn: whether it stops, and why. Inside a section it asks the gate alone,
-// and goes on.
+// Does what a worker does before a turn: returns whether and why it stops. Inside a section it only
+// asks the gate, and the worker continues.
 fn before<I: CallLayer<IpcLaw> + Drop, G: Gate>(
     gate: &G,
     worker: &Worker<I>,
@@ -105,8 +105,9 @@ where
     I::Machine: Drop,
     ensures held { held.new ≡ true → (held.old ≡ true) ⊎ G.MayAnswer gate.now worker.now.cpu Limit taken }
     ensures kept { held.old ≡ true → held.new ≡ true }
-    // It goes on between two sections only where no `Limit` came and fewer turns than `turns` are
-    // taken. Where none came, the gate was asked with their number, and let the CPU pass.
+    // The worker continues between two sections only if there was no `Limit` and fewer turns than
+    // `turns` are taken. If there was none, the gate was asked with their number, and let the CPU
+    // pass.
     ensures may_take { result ≡ None → (is_inside worker.now ≡ true) ⊎ ((held.new ≡ false) × (taken < turns)) }
     ensures passes { result ≡ None → held.new ≡ false → G.MayAnswer gate.now worker.now.cpu Pass taken }
     ensures goes { result ≡ None → (setup : Setup) → IsPlanned setup worker.now.plan → MayStep setup worker.now }
@@ -127,25 +128,17 @@ where
     if *held { Some(Stop::Held) } else { None }
 }
 
-// Parks the worker's CPU, unless it is halted.
-#[cold]
-#[inline(never)]
-fn rest<I: CallLayer<IpcLaw> + Drop, R: Wait>(rt: &R, worker: &Worker<I>, idler: &Idler)
-where
-    I::Machine: Drop + Hints,
-{
-    if worker.halted().is_none() {
-        worker.machine().park_worker(rt, idler.cpu, idler.rung);
-    }
-}
-
-/// Lets a worker take its turns, until it stops between two of its sections. Before each turn it
-/// looks whether a section is under way. Where none is, it stops if its CPU is halted, else if the
-/// gate has answered `Limit`, else if `turns` turns are taken; and else it asks the gate, whose
-/// `Limit` stops it without that turn. Inside a section it asks the gate too, but goes on to the
-/// section's end. Where the gate tells for how many turns it need not be asked, it counts as asked at
-/// each of them. After a `Limit` it asks no more, takes no turn but to end the section, and stops as
-/// `TurnsUsed` in no case.
+/// Runs a worker for turns of its CPU, until it stops between two of its sections. Before each turn
+/// it checks whether a section is under way.
+///
+/// - If none is under way, it stops if its CPU is halted, else if the gate has returned `Limit`,
+///   else if `turns` turns are taken. Otherwise it asks the gate, whose `Limit` stops it without
+///   that turn.
+/// - Inside a section it asks the gate too, but continues to the section's end.
+///
+/// The gate counts as asked at each of the turns for which it has granted that it need not be
+/// asked. After a `Limit` the worker asks no more, takes no turn except to end the section, and
+/// never stops as `TurnsUsed`.
 ///
 /// It may wait for other CPUs' sections and inside the gate, so it need not return.
 ///
@@ -165,7 +158,8 @@ where
     let mut held = false;
     let mut spins = SPINS;
     let mut manners = Manners::new();
-    let mut idler = Idler::new(worker.number());
+    let own = worker.number();
+    let mut idler = Idler::new(own);
     for _ in rt.forever() {
         if let Some(stop) = before(gate, worker, taken, turns, &mut held) {
             worker.machine().leave();
@@ -177,9 +171,7 @@ where
         let gone = worker.turns(most);
         taken = taken.saturating_add(gone as u64);
         spins = manners.after_turn(worker, spins);
-        if idler.after(worker.part()) && 1 < open {
-            rest(rt, worker, &idler);
-        }
+        idler.after_turn(rt, worker, open);
     }
     unreachable!()
 }

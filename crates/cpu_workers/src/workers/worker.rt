@@ -9,8 +9,8 @@ use layer_traits::{CallLayer, IpcLaw, Reason, Step};
 use std::alloc::Global;
 use std::marker::Model;
 
-/// One CPU with a machine of its own side, in which it may act at any time. A contract sees it as
-/// plain data: which CPU it is, its plan, and how it stands in the step table.
+/// One CPU with its own side of a machine, in which it may act at any time. A contract sees it
+/// as plain data: which CPU it is, its plan, and its state in the step table.
 #[derive(Drop)]
 pub struct Worker<I: CallLayer<IpcLaw> + Drop>
 where
@@ -63,11 +63,11 @@ where
     ghost use Rattle.cpu.specs.{Boots.AreGuests, Table.{Setups.{Setup, boot_of}, Steps.halted_at}};
     ghost use Rattle.cpu_workers.specs.{Working.{IsPlanned, IsSame, MayStep, TookTurns, Turned, is_inside}, Orders.{HasFollowed, IsTraceOf}};
 
-    /// The worker of a CPU and its machine, which agree. The machine does one action a step and has
-    /// room for one at any time, and each of its buffers opened empty.
+    /// Makes the worker of a CPU and its machine, which agree. The machine does one action a step
+    /// and has room for one at any time, and each of its buffers opened empty.
     ///
     /// Requires: each poll is one action, and the machine has room at any time. CPU and machine
-    /// agree, and the CPU stands as the step table says. Each buffer opened empty.
+    /// agree, and the CPU's state is as the step table says. Each buffer opened empty.
     pub fn new(cpu: Cpu<I>, machine: I::Machine) -> Worker<I>
         requires stepwise { I.IsStepwise }
         requires fits { I.Fits cpu.part machine }
@@ -92,7 +92,7 @@ where
         }
     }
 
-    // Lets it take up to so many turns at once from here on.
+    // Lets the worker take up to so many turns at once from here on.
     pub(crate) fn stretch_to(&mut self, stretch: usize)
         requires some { 0 < stretch }
         requires room { (m : I.Machine) → stretch ≤ I.room m }
@@ -101,15 +101,15 @@ where
         self.stretch = stretch;
     }
 
-    /// The worker of a CPU before its first turn, with the guests of its home threads, over a
-    /// machine of its own side in which nothing was done, with threads of these homes and so many
-    /// buffers. Its trace has room for `limit` entries.
+    /// Makes the worker of a CPU before its first turn, with the guests of its home threads.
+    /// Nothing was done in the worker's own side of the machine, which has threads of these
+    /// homes and so many buffers. Its trace has room for `limit` entries.
     ///
     /// Requires: each poll is one action, and the machine has room at any time. Nothing was done in
     /// it, and it has these homes, at most `THREADS`, and so many buffers. There is a guest for
-    /// each thread at home here and for no other.
+    /// each home thread of this CPU and for no other.
     ///
-    /// Errors: `NoMemory` where an allocation was refused; then the machine is gone.
+    /// Errors: `NoMemory` if an allocation failed; then the machine is dropped.
     pub fn at_boot(
         alloc: Global,
         machine: I::Machine,
@@ -142,7 +142,7 @@ where
         }
     }
 
-    /// The trace of the worker's CPU and its machine.
+    /// Returns the trace of the worker's CPU and its machine.
     pub fn into_parts(self) -> (Vec<Entry>, I::Machine)
         ensures trace { result.0.items ≡ self.private.trace }
         ensures acts { I.acts result.1 ≡ self.acts }
@@ -153,9 +153,10 @@ where
         (cpu.trace, machine)
     }
 
-    /// What holds after any number of turns: the trace is, once and in their order, the CPU's effects
-    /// in the actions that it has seen, which are legal; it has kept to its room, each of its entries
-    /// is of a thread at home, and each of these has followed its program.
+    /// States the invariant after any number of turns. The trace is the CPU's effects in the
+    /// actions that it has seen, once each and in order, and these actions are legal. The trace is
+    /// within its room, each of its entries is of a home thread, and each of these threads has
+    /// followed its program.
     pub fn keeps(&self)
         ensures trace { IsTraceOf self.now.cpu self.now.plan.caps self.now.acts self.now.private.trace }
         ensures legal { AreLegal self.now.acts }
@@ -164,21 +165,21 @@ where
         let _ = &self.machine;
     }
 
-    /// The number of the worker's CPU.
+    /// Returns the number of the worker's CPU.
     pub fn number(&self) -> CpuId
         ensures { result ≡ self.now.cpu }
     {
         self.cpu.number
     }
 
-    /// Whether a section of the CPU is under way.
+    /// Returns whether a section of the CPU is under way.
     pub fn is_busy(&self) -> bool
         ensures { result ≡ is_inside self.now }
     {
         self.part().is_busy()
     }
 
-    // The CPU's part.
+    // Returns the CPU's part.
     #[inline(always)]
     pub(crate) fn part(&self) -> &I
         ensures { I.is_inside result.now ≡ is_inside self.now }
@@ -186,18 +187,18 @@ where
         &self.cpu.part
     }
 
-    // The machine in which it acts.
+    // Returns the machine in which it acts.
     #[inline(always)]
     pub(crate) fn machine(&self) -> &I::Machine {
         &self.machine
     }
 
-    // How many of the CPU's calls took effect.
+    // Returns how many of the CPU's calls took effect.
     pub(crate) fn calls(&self) -> usize {
         self.cpu.trace.len()
     }
 
-    // The buffer at which the newest of them did.
+    // Returns the buffer at which the newest of them did.
     pub(crate) fn last_buffer(&self) -> Option<BufId> {
         match self.cpu.trace.last() {
             Some(entry) => Some(entry.buffer),
@@ -205,7 +206,8 @@ where
         }
     }
 
-    /// Why the CPU takes no step while no section of it is under way: `AllEnded` or `TraceFull`.
+    /// Returns why the CPU takes no step while no section of it is under way: `AllEnded` or
+    /// `TraceFull`.
     pub fn halted(&self) -> Option<Reason>
         ensures is { (setup : Setup) → IsPlanned setup self.now.plan → halted_at setup self.now.cpu self.now.private ≡ result }
         ensures own { result ≢ Some StepsUsed }
@@ -213,8 +215,9 @@ where
         self.cpu.halted()
     }
 
-    /// Takes turns of the CPU, one behind the other, up to `most`: none where it is halted, and just one where
-    /// no thread runs, so that other threads may run after it. Returns how many it took.
+    /// Takes up to `most` turns of the CPU, one after the other, and returns how many it took. It
+    /// takes none if the CPU is halted. It takes only one if no thread runs, so that other threads
+    /// may run after it.
     pub(crate) fn turns(&mut self, most: usize) -> usize
         requires { 0 < most }
         ensures some { (setup : Setup) → IsPlanned setup self.old.plan → MayStep setup self.old → 0 < result }
@@ -229,7 +232,8 @@ where
         self.cpu.run(&mut self.machine, most)
     }
 
-    /// One step of the CPU: one local action or one atomic action. `Halted` where it took none.
+    /// Takes one step of the CPU: one local action or one atomic action. Returns `Halted` if it
+    /// took none.
     pub fn step(&mut self) -> Step
         ensures same { IsSame self.old self.new }
         ensures turned { Turned self.old self.new result }

@@ -1,6 +1,7 @@
-//! The texts that teach the command line: for each command what goes in, what comes out, the limits
-//! and an example, and two lines of usage for those who misspelt it. Help goes to standard output if
-//! the words ask for it. The usage goes to standard error, behind what is wrong with the words.
+//! The texts that teach the command line. There is one for each command: its input, its output, the
+//! limits and an example. Two lines of usage are for a misspelt command. Help is written to
+//! standard output if the words ask for it. The usage is written to standard error, after what is
+//! wrong with the words.
 
 ghost use Rattle.std.specs.Prelude.{◌≡◌, map};
 ghost use Rattle.mctower.specs.Help.{topic_of, help_of, usage_of};
@@ -160,7 +161,7 @@ example: mctower run --schedule '0*21' < plan.toml | mctower check
 prints:  yes
 ";
 
-/// The command that the words name: the first word, or the one behind `help`.
+/// Returns the command that the words name: the first word, or the one after `help`.
 fn topic<'a>(words: &[&'a str]) -> &'a str
     ensures { result.now ≡ topic_of (map (λ w. w.now) words.now) }
 {
@@ -171,7 +172,7 @@ fn topic<'a>(words: &[&'a str]) -> &'a str
     }
 }
 
-/// The help on the command that the words name, or on the whole program.
+/// Returns the help on the command that the words name, or on the whole program.
 pub(crate) fn help_on(words: &[&str]) -> &'static str
     ensures { result.now ≡ help_of (topic_of (map (λ w. w.now) words.now)) }
 {
@@ -184,7 +185,7 @@ pub(crate) fn help_on(words: &[&str]) -> &'static str
     }
 }
 
-/// The two lines of usage of the command that the words name, or of the whole program.
+/// Returns the two lines of usage of the command that the words name, or of the whole program.
 pub(crate) fn usage_on(words: &[&str]) -> &'static str
     ensures { result.now ≡ usage_of (topic_of (map (λ w. w.now) words.now)) }
 {

@@ -19,7 +19,7 @@ const LAST_CPU: u64 = 255;
 /// Why a text gives no schedule.
 #[derive(Debug, Clone, Copy, PartialEq, Eq, Error)]
 pub enum StepsError {
-    /// An allocation was refused.
+    /// Out of memory.
     #[error("{0}")]
     NoMemory(NoMemory),
     /// The text is not in the grammar of schedules, or its steps are too many.
@@ -35,7 +35,7 @@ impl From<AllocError> for StepsError {
     }
 }
 
-/// A text that is no schedule, as a refusal.
+/// Returns the error of a text that is no schedule.
 pub(crate) fn steps_refused(error: StepsError) -> Refusal
     ensures { result ≡ from_steps error }
 {
@@ -55,10 +55,10 @@ pub struct Item {
 /// Reads a schedule: one or more items, with one comma between two of them.
 ///
 /// An item is `c`, one step of CPU c, or `c*n`, n steps of it, with c from 0 to 255 and n from 1 to
-/// 1,048,576, in decimal digits without a leading zero (`0` alone is zero). All items together
-/// have at most 1,048,576 steps. Whether a plan has the CPUs is not asked here.
+/// 1,048,576. Numbers are decimal digits without a leading zero, except `0`. All items together
+/// have at most 1,048,576 steps. Whether a plan has the CPUs is not checked here.
 ///
-/// Errors: `BadSchedule` for any other text; `NoMemory` only where memory ran out.
+/// Errors: `BadSchedule` for any other text; `NoMemory` only if memory ran out.
 pub fn read_steps(alloc: Global, text: &str) -> Result<Vec<CpuId>, StepsError>
     ensures { ReadsSteps (steps_of text.now) result }
 {
@@ -86,8 +86,9 @@ pub fn read_steps(alloc: Global, text: &str) -> Result<Vec<CpuId>, StepsError>
     Ok(steps)
 }
 
-// The first item where it is a CPU's number alone with a comma behind it: its CPU, and the text behind
-// the comma. `None` where the first item is any other, which `read_item` then reads or refuses.
+// Reads the first item if it is only a CPU's number, followed by a comma: returns its CPU, and the
+// text after the comma. Returns `None` if the first item is any other, which `read_item` then reads
+// or rejects.
 #[inline(always)]
 fn single_step(text: &str) -> Option<(CpuId, &str)>
     ensures step { IfSome result (λ r. steps_in (slice_split is_comma text.now) ≡ option_map (λ more. r.0 ∷ more) (steps_in (slice_split is_comma r.1.now))) }
@@ -97,8 +98,9 @@ fn single_step(text: &str) -> Option<(CpuId, &str)>
     Some((cpu, &text[count + 1..]))
 }
 
-// The CPU whose number the text begins with, and how many digits that has, where a comma stands behind
-// them. Most items of a long schedule are so, and a loop would cost more than their one to three digits.
+// Returns the CPU whose number the text begins with, and how many digits that number has, if a
+// comma follows them. Most items of a long schedule have this form, and a loop would cost more than
+// their one to three digits.
 #[inline(always)]
 fn cpu_digits(text: &[u8]) -> Option<(usize, CpuId)>
     ensures digits { IfSome result (λ r. all_ascii_digits (take r.0 text.now) ≡ true) }
@@ -130,7 +132,7 @@ fn cpu_digits(text: &[u8]) -> Option<(usize, CpuId)>
     Some((3, CpuId(three as u8)))
 }
 
-// Whether a digit stands at a place.
+// Returns whether a digit is at a place.
 #[inline(always)]
 fn is_digit_at(text: &[u8], at: usize) -> bool
     ensures { result ≡ true → (at < length text.now) × (is_ascii_digit (slice_index text.now at) ≡ true) }
@@ -138,7 +140,7 @@ fn is_digit_at(text: &[u8], at: usize) -> bool
     at < text.len() && text[at].is_ascii_digit()
 }
 
-// Whether a comma stands at a place.
+// Returns whether a comma is at a place.
 #[inline(always)]
 fn is_comma_at(text: &[u8], at: usize) -> bool
     ensures { result ≡ true → (at < length text.now) × (slice_index text.now at ≡ 44) }
@@ -146,7 +148,7 @@ fn is_comma_at(text: &[u8], at: usize) -> bool
     at < text.len() && text[at] == b','
 }
 
-// The text before the first comma, and what stands behind that.
+// Returns the text before the first comma, and the text after it.
 fn cut_item(text: &str) -> (&str, Option<&str>)
     ensures pieces { slice_split is_comma text.now ≡ result.0.now ∷ schedule_pieces (option_map (λ t. t.now) result.1) }
     ensures shorter { IfSome result.1 (λ t. length t.now < length text.now) }
@@ -186,7 +188,7 @@ fn read_cpu(text: &str) -> Option<CpuId>
     Some(CpuId(number as u8))
 }
 
-// One step more: most items are one, and a push is shorter than a fill.
+// Appends one more step: most items are one step, and a push is shorter than a fill.
 #[inline(always)]
 fn push_step(steps: &mut Vec<CpuId>, cpu: CpuId) -> Result<(), AllocError>
     ensures { OnOk result (steps.new.items ≡ steps.old.items ++ cpu ∷ []) }

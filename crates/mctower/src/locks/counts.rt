@@ -44,7 +44,7 @@ fn count_over<K: LineWords + OnLock>(
 ///
 /// Requires: `cpus` is from 1 to [`CPUS`](event_log::CPUS). `times` is at most [`MOST_TIMES`].
 ///
-/// Errors: `NoMemory` where memory ran out; then no section was done.
+/// Errors: `NoMemory` if memory ran out; then no section was done.
 pub fn count_plain(alloc: Global, cpus: u8, times: u64, lock: LockKind) -> Result<Counted, NoMemory>
     requires some { 1 ≤ cpus }
     requires cpus { cpus ≤ CPUS }
@@ -58,13 +58,13 @@ pub fn count_plain(alloc: Global, cpus: u8, times: u64, lock: LockKind) -> Resul
     by_kind!(lock, count_over::<Line>(alloc, cpus, times, lock))
 }
 
-/// Counts over shared words of locks of this kind: each of `cpus` CPUs does `times` sections that add
-/// 1 to one number, in a thread of its own, as [`counting::count_table`] says.
+/// Counts over shared words of locks of this kind. Each of `cpus` CPUs does `times` sections that
+/// add 1 to one number, in its own thread, as [`counting::count_table`] says.
 ///
 /// Requires: `cpus` is at most [`CPUS`](event_log::CPUS). `times` is at most [`MOST_TIMES`].
 ///
-/// Errors: `NoMemory` where memory ran out and `NoThread` where a thread could not be started; then
-/// no section was done, and the threads that were started are joined.
+/// Errors: `NoMemory` if memory ran out, and `NoThread` if a thread could not be started. Then no
+/// section was done, and the threads that were started are joined.
 pub fn count_table<R: Threads + Wait + Sync>(
     rt: &R,
     alloc: Global,

@@ -1,5 +1,5 @@
-//! Rounds of a count over one owned machine: each CPU in turn adds 1 to one number, in a critical section
-//! behind one lock. All calls but `round` and `rounds` take memory. None waits.
+//! Rounds of a count over one owned machine: each CPU in turn adds 1 to one number, in a critical
+//! section under one lock. All calls except `round` and `rounds` take memory. None waits.
 
 ghost use Rattle.std.specs.Prelude.{◌≡◌, ℕ, ◌+◌, ◌*◌, ◌<◌, ◌≤◌, ◌%◌, ◌^◌, Some, None, IsSome, IfOk, [], length};
 ghost use Rattle.{event_log.specs.{declared.ids.{CpuId.CpuId, TheConstants.CPUS}, Actions.{gives, phase, Rests}}, cpu_workers.specs.Counts.sections_at};
@@ -16,8 +16,8 @@ use layer_traits::{LockLayer, OwnedLocks, Payload};
 use spinlock::whole;
 use std::alloc::{AllocError, Global};
 
-/// Each part in turn does one whole section at `lock`, which adds 1 to the lock's number. Nothing
-/// lies in the payload that counts.
+/// Does one whole section of each part in turn at `lock`, which adds 1 to the lock's number. The
+/// payload holds nothing that counts.
 fn round<L: LockLayer<AddOne>>(
     parts: &mut [L],
     machine: &mut L::Machine,
@@ -43,7 +43,7 @@ fn round<L: LockLayer<AddOne>>(
     }
 }
 
-/// So many rounds, as [`round`] does one.
+/// Does that many rounds, as [`round`] does one.
 fn rounds<L: LockLayer<AddOne>>(parts: &mut [L], machine: &mut L::Machine, lock: LockId, times: u64)
     requires stepwise { L.IsStepwise }
     requires ready { AreReady L.cpu_of L.under_way L.Fits parts.old machine.old }
@@ -63,7 +63,7 @@ fn rounds<L: LockLayer<AddOne>>(parts: &mut [L], machine: &mut L::Machine, lock:
     }
 }
 
-/// A part for each CPU from 0 on, each at rest.
+/// Makes a part for each CPU from 0 on, each at rest.
 fn parts_of<L: LockLayer<AddOne> + Drop>(alloc: Global, cpus: u8) -> Result<Vec<L>, AllocError>
     ensures long { IfOk result (λ parts. length parts.items ≡ cpus) }
     ensures ready { IfOk result (λ parts. (m : _) → ((c : CpuId) → c.0 < cpus → L.ActsFor m c)
@@ -76,7 +76,7 @@ fn parts_of<L: LockLayer<AddOne> + Drop>(alloc: Global, cpus: u8) -> Result<Vec<
     Ok(parts)
 }
 
-/// An owned machine with the number 0 behind its lock, and room for `events` events.
+/// Makes an owned machine with the number 0 under its lock, and room for `events` events.
 fn number_machine<L: OwnedLocks<AddOne>>(
     alloc: Global,
     events: usize,
@@ -92,14 +92,14 @@ fn number_machine<L: OwnedLocks<AddOne>>(
     L::open(alloc, blocks, events)
 }
 
-/// The owned machine after each of `cpus` CPUs has done `times` sections that add 1 to the number,
-/// which was 0. The sections are done whole, in rounds of the CPUs from 0 on, and each CPU keeps
-/// its part of the lock over all of its sections.
+/// Returns the owned machine after each of `cpus` CPUs has done `times` sections that add 1 to the
+/// number, which was 0. The sections are done whole, in rounds of the CPUs from 0 on. Each CPU
+/// keeps its part of the lock over all of its sections.
 ///
 /// Requires: each poll of the lock is one action. `cpus` is from 1 to [`CPUS`](event_log::CPUS).
 /// `times` is at most [`MOST_TIMES`].
 ///
-/// Errors: `NoMemory` where the machine or the parts could not be had; then no section was done.
+/// Errors: `NoMemory` if the machine or the parts could not be allocated; then no section was done.
 pub fn count_rounds<L: OwnedLocks<AddOne> + Drop>(
     alloc: Global,
     cpus: u8,
@@ -123,13 +123,13 @@ where
     Ok(machine)
 }
 
-/// Counts over the owned machine behind this lock: as
-/// [`count_plain`](crate::locks::counts::count_plain).
+/// Counts over the owned machine with this lock, as
+/// [`count_plain`](crate::locks::counts::count_plain) does.
 ///
-/// Requires: there are from 1 to `CPUS` CPUs, and each adds at most `MOST_TIMES` times. Each poll of
-/// the lock is one action. `lock` is the kind of its words.
+/// Requires: there are from 1 to `CPUS` CPUs, and each adds at most `MOST_TIMES` times. Each poll
+/// of the lock is one action. `lock` is the kind of its words.
 ///
-/// Errors: `NoMemory` if an allocation was refused.
+/// Errors: `NoMemory` if an allocation failed.
 pub(crate) fn count_behind<L: OwnedLocks<AddOne> + Drop>(
     alloc: Global,
     cpus: u8,

@@ -1,8 +1,8 @@
-//! What is done over the tower of all layers. A proof of a function that names a nest of many types
-//! takes minutes, the more the more it has of other types and values. So what is done is one value,
-//! behind a trait that names no layer ([`OverTower`]). Each function that climbs names a few layers,
-//! over any that meet the trait beneath, and hands the top on. The lock at the foot is named in
-//! `locks.rt`. No call waits, unless what is done does.
+//! Work over the tower of all layers. A proof of a function that names a nest of many types takes
+//! minutes, and longer with each further type or value. Therefore the work is one value, under a
+//! trait that names no layer ([`OverTower`]). Each function that climbs names a few layers, over
+//! any that meet the trait below, and passes the top upward. The lock at the foot is named in
+//! `locks.rt`. No call waits, unless the work does.
 
 use condvar::Cond;
 use cpu_workers::OnLock;
@@ -15,24 +15,24 @@ use shared_queue::SharedQueues;
 use sleep_wakeup::Sleeper;
 use std::marker::PhantomData;
 
-/// What is done over the top of a tower, by a contract that names no layer. So the functions that
-/// climb the tower rest on this alone, and their proofs, which take minutes, stay as they are where
-/// the proof of what is done changes.
+/// Work over the top of a tower, under a contract that names no layer. The functions that climb the
+/// tower depend only on this trait. Therefore their proofs, which take minutes, stay as they are if
+/// the proof of the work changes.
 pub trait OverTower {
     ghost use Rattle.boot.specs.declared.locks.LockKind.{LockKind};
 
-    /// What comes of it.
+    /// What the work returns.
     type Done;
 
     /// Whether it may be done over the tower of a lock of this kind.
     ghost IsReady: { Self → LockKind → Type 0 };
 
-    /// What doing it makes of it, if this comes of it.
+    /// What the work leaves of its value, if it returns this.
     ghost Does: { Self → Self.Done → Self → Type 0 };
 
-    /// Does it over the top of the tower.
+    /// Does the work over the top of the tower.
     ///
-    /// Requires: it may be done over the tower of the kind of lock on which this one stands.
+    /// Requires: it may be done over the tower of the kind of lock under this one.
     fn over<I: Stepwise + Drop>(&mut self) -> Self::Done
     where
         I::Machine: OnLock + Drop,
@@ -40,7 +40,7 @@ pub trait OverTower {
         ensures { Does self.old result self.new };
 }
 
-/// Does it over queuing locks, conditions, buffers and message calls.
+/// Does the work over queuing locks, conditions, buffers and message calls.
 fn over_locks<V: OverTower, S: StepwiseLocks + Drop>(work: &mut V) -> V::Done
 where
     S::Machine: OnLock + Drop,
@@ -61,7 +61,7 @@ where
     over_locks::<V, Sleeper<LockEdit, S>>(work)
 }
 
-/// Does what is to be done over the tower that stands on these sections.
+/// Does the work over the tower on these sections.
 ///
 /// Requires: it may be done over the tower of their kind of lock.
 pub fn over_sections<V: OverTower, L: StepwiseSections + Drop>(work: &mut V) -> V::Done

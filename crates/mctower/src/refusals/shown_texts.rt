@@ -11,7 +11,7 @@ const LONGEST: usize = 200;
 /// A text as it is shown in a line.
 pub type Shown = ArrayString<LONGEST>;
 
-/// The text before its first line feed.
+/// Returns the text before its first line feed.
 fn first_line(text: &str) -> &str
     ensures { result.now ≡ before_first is_line_feed text.now }
 {
@@ -21,8 +21,8 @@ fn first_line(text: &str) -> &str
     }
 }
 
-/// A text as it is shown in a line: what stands before its first line feed, or two dots if that is
-/// longer than 200 bytes.
+/// Returns a text as it is shown in a line: its part before the first line feed, or two dots if
+/// that is longer than 200 bytes.
 pub(crate) fn shown(text: &str) -> Shown
     ensures { result.bytes ≡ shown_line text.now }
 {

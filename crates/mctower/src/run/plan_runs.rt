@@ -1,5 +1,5 @@
-//! The run of a plan over the tower of the lock that it names. `run_plan` takes memory. No call waits,
-//! unless the sink's writer does.
+//! The run of a plan over the tower of the lock that it names. `run_plan` takes memory. No call
+//! waits, unless the sink's writer does.
 
 ghost use Rattle.std.specs.Prelude.{◌≡◌, ◌≤◌, false, length};
 ghost use Rattle.{boot.specs.Plan.plan_of, tracer.specs.Sinks.has_failed, mctower.specs.{Output.between, Running.RunsOverTower}};
@@ -48,9 +48,9 @@ impl<O: Write> OverTower for PlanRun<'_, '_, '_, O> {
     }
 }
 
-/// Runs a plan under a schedule over the tower of the lock that it names, as
-/// [`run_text`](crate::run::run_text) does over layers that it is given, and gives what the state lines
-/// tell of the system.
+/// Runs a plan under a schedule over the tower of the lock that it names. It does what
+/// [`run_text`](crate::run::run_text) does over the layers that it is given. Returns what the state
+/// lines report of the system.
 ///
 /// Requires: the sink has not failed. There are at most `MOST_STEPS` steps.
 ///

@@ -1,4 +1,5 @@
-//! Why a run gave no trace text, and what is refused then. No call takes memory or waits.
+//! Why a run gave no trace text, and the error that is then reported. No call takes memory or
+//! waits.
 
 ghost use Rattle.std.specs.Prelude.{◌≡◌};
 ghost use Rattle.{event_log.specs.Refusals.no_memory, mctower.specs.{Plans.from_boot, Refusals.from_fault, declared.run.run_faults.Fault.TheVariants.NoMemory}};
@@ -15,16 +16,16 @@ use tracer::{GatherError, WriteFault};
 /// Why a run gave no trace text. Each prints as its name, its number and where it is.
 #[derive(Clone, Copy, Debug, PartialEq, Eq, Error)]
 pub enum Fault {
-    /// An allocation was refused.
+    /// Out of memory.
     #[error("{0}")]
     NoMemory(NoMemory),
-    /// The plan is refused.
+    /// The plan is rejected.
     #[error("{0}")]
     Boot(BootError),
     /// The schedule names a CPU that the plan has not.
     #[error("BadCpu(4)")]
     BadCpu,
-    /// The traces have no order that keeps each of them. It never comes.
+    /// The traces have no order that keeps each of them. It never occurs.
     #[error("NoOrder(6)")]
     NoOrder,
     /// A write to the sink failed.
@@ -96,7 +97,7 @@ impl From<WriteFault> for Fault {
     }
 }
 
-/// A fault of a run as a refusal.
+/// Returns a fault of a run as an error.
 pub(crate) fn run_refused(fault: Fault) -> Refusal
     ensures { result ≡ from_fault fault }
 {

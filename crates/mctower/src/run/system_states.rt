@@ -1,4 +1,4 @@
-//! What the state lines tell of a system, read off it. No call takes memory or waits.
+//! What the state lines report of a system, read off it. No call takes memory or waits.
 
 ghost use Rattle.std.specs.Prelude.{◌≡◌, ◌<◌, ◌≤◌, ℕ, length, slice_index_or};
 ghost use Rattle.{event_log.specs.declared.ids.TheConstants.{CPUS, THREADS}, layer_traits.specs.declared.calls.Place.Place, cpu.specs.Claims.IsPlaceOf};
@@ -10,7 +10,7 @@ use cpu::System;
 use event_log::{CPUS, CpuId, THREADS, Tid};
 use layer_traits::{Owned, Place, Reason};
 
-/// Why each of so many CPUs of a system is halted.
+/// Returns why each of so many CPUs of a system is halted.
 fn halted_of<I: Owned + Drop>(cpus: u8, system: &System<I>) -> ArrayVec<Option<Reason>, CPUS>
 where
     I::Machine: Drop,
@@ -25,7 +25,7 @@ where
     halted
 }
 
-/// Where each of so many threads of a system is.
+/// Returns where each of so many threads of a system is.
 fn places_of<I: Owned + Drop>(threads: usize, system: &System<I>) -> [Place; THREADS]
 where
     I::Machine: Drop,
@@ -41,7 +41,7 @@ where
     places
 }
 
-/// What the state lines tell of a system. Takes no memory.
+/// Returns what the state lines report of a system. Takes no memory.
 pub fn state_of<I: Owned + Drop>(system: &System<I>) -> State
 where
     I::Machine: Drop,

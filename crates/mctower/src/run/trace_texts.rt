@@ -13,21 +13,21 @@ use std::alloc::{AllocError, Global};
 use std::io::Write;
 use tracer::{Sink, gather, write_trace};
 
-/// A law: the judge says yes to the text of any traces, so `check` says yes to all that a run of
-/// steps or a run in threads writes with a good answer.
+/// A law: the judge says yes to the text of any traces. Therefore `check` says yes to each text
+/// that a run of steps or a run in threads writes with success.
 pub fn texts_get_yes()
     ensures { (text caps : List ℕ) (traces : List (List AnEntry)) (left : List (List Message)) → IsTextOf caps traces left text
         → verdict_of text ≡ SaysYes }
 {}
 
-/// A law: a run by a schedule has one text. So what `run` prints of a plan is a function of the plan and
-/// the schedule.
+/// A law, determinism: a run under a schedule has one text. Therefore what `run` prints is a
+/// function of the plan and the schedule.
 pub fn runs_have_one_text()
     ensures { RunsHaveOneText }
 {}
 
-/// A law: what a run of a plan in threads prints, a run of the plan prints under some schedule of its
-/// CPUs, however its workers' actions came between one another.
+/// A law, simulation. What a run of a plan in threads prints, a run of the plan prints under some
+/// schedule of its CPUs, however its workers' actions interleave.
 pub fn threads_print_a_run()
     ensures { ThreadsPrintARun }
 {}
@@ -42,8 +42,8 @@ pub fn nothing_is_printed()
 ///
 /// Requires: the sink has not failed, and the traces have a text with what is left.
 ///
-/// Errors: `NoMemory` where an allocation was refused, and then nothing was written; `WriteFault`
-/// exactly where the sink failed.
+/// Errors: `NoMemory` if an allocation failed, and then nothing was written; `WriteFault` exactly
+/// if the sink failed.
 pub(crate) fn write_text<W: Write>(
     alloc: Global,
     caps: &[u8],
@@ -61,12 +61,12 @@ pub(crate) fn write_text<W: Write>(
     Ok(())
 }
 
-/// Writes the trace text of traces that lie in vectors, as [`write_text`] does.
+/// Writes the trace text of traces in vectors, as [`write_text`] does.
 ///
 /// Requires: the sink has not failed, and the traces have a text with what is left.
 ///
-/// Errors: `NoMemory` where an allocation was refused, and then nothing was written; `WriteFault`
-/// exactly where the sink failed.
+/// Errors: `NoMemory` if an allocation failed, and then nothing was written; `WriteFault` exactly
+/// if the sink failed.
 pub(crate) fn write_lists<W: Write>(
     alloc: Global,
     caps: &[u8],
@@ -82,9 +82,9 @@ pub(crate) fn write_lists<W: Write>(
     write_text(alloc, caps, &slices, left, sink)
 }
 
-/// A slice of each trace, where it lies.
+/// Returns a slice of each trace, at its place.
 ///
-/// Errors: `AllocError` where an allocation was refused.
+/// Errors: `AllocError` if an allocation failed.
 fn slices_of<'t>(alloc: Global, traces: &'t [Vec<Entry>]) -> Result<Vec<&'t [Entry]>, AllocError>
     ensures { IfOk result (λ all. traces_in all.items ≡ map (λ trace. trace.items) traces.now) }
 {
@@ -95,7 +95,7 @@ fn slices_of<'t>(alloc: Global, traces: &'t [Vec<Entry>]) -> Result<Vec<&'t [Ent
     Ok(all)
 }
 
-// Each message is one, as its type says; a list of entries does not tell it by itself. It computes
+// Each message is one, as its type says; a list of entries does not say so by itself. It computes
 // nothing.
 fn values_fit(entries: &[&Entry])
     ensures { (k : ℕ) (d : AnEntry) → k < length (entries_in entries.now) → IsMessage (slice_index_or (entries_in entries.now) k d).value }

@@ -1,4 +1,4 @@
-//! What is done of an order, and what each order takes in and puts out. `read_all` takes memory. No call
+//! What is done of an order, and what each order reads and prints. `read_all` takes memory. No call
 //! waits, unless the reader or the sink's writer does.
 
 ghost use Rattle.std.specs.{Prelude.{◌≡◌, IfOk, false, true}, List.flat_map};
@@ -14,20 +14,20 @@ use std::alloc::Global;
 use std::io::{Read, Write};
 use tracer::{Sink, WriteFault};
 
-/// What serving an order gave, where it is done.
+/// What serving an order returned, if it is done.
 #[derive(Drop)]
 pub enum Done {
-    /// This exit status; nothing is to be told.
+    /// This exit status, and no report.
     Exit(u8),
-    /// A count over the owned machine and one over the shared table; nothing is to be told.
+    /// A count over the owned machine and one over the shared table, and no report.
     BothCounted(Counted, Counted),
-    /// A good run, whose system is in this state, which is to be told.
+    /// A successful run, whose system is in this state, which will be reported.
     Ran(State),
-    /// A good run in threads, whose workers stopped so, by CPU, which is to be told.
+    /// A successful run in threads, whose workers stopped so, by CPU, which will be reported.
     Worked(Vec<Stop>),
 }
 
-/// Puts the pieces out and flushes; then this is done.
+/// Writes the pieces and flushes; then this is done.
 ///
 /// Requires: the sink has not failed.
 ///
@@ -47,9 +47,9 @@ pub(crate) fn put_out<O: Write>(
     }
 }
 
-/// All of the input.
+/// Reads all of the input.
 ///
-/// Errors: `NoMemory` if an allocation was refused. `ReadFault` if a read failed.
+/// Errors: `NoMemory` if an allocation failed. `ReadFault` if a read failed.
 pub(crate) fn read_all<R: Read>(alloc: Global, input: &mut R) -> Result<Vec<u8>, Refusal>
     ensures { ReadsAll (R.remaining input.old) result }
 {

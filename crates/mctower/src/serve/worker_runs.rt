@@ -1,6 +1,5 @@
-//! The command `threads`: a plan is run with a worker thread for each CPU, its trace text is put
-//! out, and why each worker stopped is told. `serve_threads` takes memory and waits for the
-//! workers.
+//! The command `threads`: it runs a plan with a worker thread for each CPU, writes its trace text,
+//! and reports why each worker stopped. `serve_threads` takes memory and waits for the workers.
 
 ghost use Rattle.std.specs.{Prelude.{◌≡◌, ◌≤◌, ◌⊎◌, IfOk, false, is_err, map, true}, List.flat_map};
 ghost use Rattle.{event_log.specs.declared.ids.TheConstants.BUFFERS, boot.specs.Plan.plan_of, tracer.specs.Sinks.{WentOut, has_failed, is_flushed}};
@@ -23,7 +22,7 @@ use std::sync::Wait;
 use std::thread::Threads;
 use tracer::{Sink, WriteFault};
 
-/// The word for a stop.
+/// Returns the word for a stop.
 fn stop_word(stop: Stop) -> &'static str
     ensures { result.now ≡ stop_word stop }
 {
@@ -35,7 +34,7 @@ fn stop_word(stop: Stop) -> &'static str
     }
 }
 
-/// The lines of the CPUs.
+/// Writes the lines of the CPUs.
 fn put_stops<W: Write>(sink: &mut Sink<W>, stops: &[Stop]) -> Result<(), WriteFault>
     requires { has_failed sink.old ≡ false }
     ensures failed { is_err result ≡ has_failed sink.new }
@@ -47,8 +46,8 @@ fn put_stops<W: Write>(sink: &mut Sink<W>, stops: &[Stop]) -> Result<(), WriteFa
     Ok(())
 }
 
-/// Tells why each worker stopped, by the number of its CPU, and sees that it is out, if the sink takes
-/// it. Takes no memory.
+/// Reports why each worker stopped, by the number of its CPU, and flushes the report, if the sink
+/// accepts it. Takes no memory.
 ///
 /// Requires: the sink has not failed.
 pub(crate) fn write_stops<W: Write>(sink: &mut Sink<W>, stops: &[Stop])
@@ -60,7 +59,7 @@ pub(crate) fn write_stops<W: Write>(sink: &mut Sink<W>, stops: &[Stop])
     }
 }
 
-/// What so many buffers of a report hold.
+/// Returns what so many buffers of a report hold.
 fn left_in(report: &Report, buffers: usize) -> ArrayVec<ArrayVec<Msg, CAPACITY>, BUFFERS>
     requires { buffers ≤ BUFFERS }
     ensures { map (λ v. v.items) result.items ≡ listed (λ b. items_of_block report.now.blocks.items (buffer_at b)) 0 buffers }
@@ -72,7 +71,7 @@ fn left_in(report: &Report, buffers: usize) -> ArrayVec<ArrayVec<Msg, CAPACITY>,
     left
 }
 
-/// Runs a plan with a worker thread for each CPU, and puts its trace text out.
+/// Runs a plan with a worker thread for each CPU, and writes its trace text.
 fn work_plan<O: Write, T: Threads + Wait + Sync>(
     rt: &T,
     alloc: Global,
@@ -120,18 +119,21 @@ fn work_bytes<O: Write, T: Threads + Wait + Sync>(
     work_plan(rt, alloc, plan, turns, out)
 }
 
-/// Runs the plan on the input with a worker thread for each CPU, each of which stops after so many
-/// turns at the latest, or once the section has ended that is under way then. The trace text is put
-/// out and flushed: the plan's capacities, the entries of all CPUs in one order, and what the buffers
-/// hold at the end.
+/// Runs the plan on the input with a worker thread for each CPU. A worker stops after so many turns
+/// at the latest, or once the section has ended that is then under way. The trace text is written
+/// and flushed: the plan's capacities, all CPUs' entries in one order, and what the buffers hold at
+/// the end.
 ///
 /// It waits for the workers, so it need not return.
 ///
 /// Requires: `out` has not failed.
 ///
-/// Errors: `NoMemory` and `ReadFault` where the input could not be read; what refuses the plan;
-/// `NoMemory` and `NoThread` where no worker took a step; `WriteFault` where the sink failed, and
-/// then a beginning of the text is out. Before any other error nothing was written.
+/// Errors: before any error except `WriteFault` nothing was written.
+///
+/// - `NoMemory` and `ReadFault` if the input could not be read.
+/// - The fault of a rejected plan.
+/// - `NoMemory` and `NoThread` if no worker took a step.
+/// - `WriteFault` if the sink failed, and then a prefix of the text is out.
 #[inline(never)]
 pub fn serve_threads<R: Read, O: Write, T: Threads + Wait + Sync>(
     rt: &T,

@@ -1,5 +1,5 @@
-//! What the program prints: pieces, all of which go out. No call takes memory or waits, unless the
-//! sink's writer does.
+//! What the program prints: pieces, all of which are written. No call takes memory or waits, unless
+//! the sink's writer does.
 
 ghost use Rattle.std.specs.{Prelude.{◌≡◌, IfOk, IfSome, false, is_err, true}, List.flat_map};
 ghost use Rattle.{tracer.specs.Sinks.{WentOut, has_failed, is_flushed}, mctower.specs.Output.{IsTold, between}};
@@ -8,10 +8,10 @@ use arrayvec::ArrayVec;
 use std::io::Write;
 use tracer::{Sink, WriteFault};
 
-/// How many bytes go out in one write at most.
+/// How many bytes one write has at most.
 const AT_ONCE: usize = 512;
 
-/// The pieces as one; `None` if they have more than `AT_ONCE` bytes.
+/// Returns the pieces as one; `None` if they have more than `AT_ONCE` bytes.
 fn joined(pieces: &[&[u8]]) -> Option<ArrayVec<u8, AT_ONCE>>
     ensures { IfSome result (λ line. line.items ≡ flat_map (λ p. p.now) pieces.now) }
 {
@@ -24,7 +24,7 @@ fn joined(pieces: &[&[u8]]) -> Option<ArrayVec<u8, AT_ONCE>>
     Some(line)
 }
 
-/// Writes the pieces one by one, or where a write failed a beginning of them.
+/// Writes the pieces one by one, or a prefix of them if a write failed.
 fn put_each<W: Write>(sink: &mut Sink<W>, pieces: &[&[u8]]) -> Result<(), WriteFault>
     requires { has_failed sink.old ≡ false }
     ensures failed { is_err result ≡ has_failed sink.new }
@@ -36,12 +36,12 @@ fn put_each<W: Write>(sink: &mut Sink<W>, pieces: &[&[u8]]) -> Result<(), WriteF
     Ok(())
 }
 
-/// Writes all pieces, or where a write failed a beginning of them. A line is put in one write, if the
+/// Writes all pieces, or a prefix of them if a write failed. A line is put in one write, if the
 /// writer takes it whole, so the lines of two programs do not mix.
 ///
 /// Requires: the sink has not failed.
 ///
-/// Errors: `WriteFault` if a write failed. Then a beginning of the pieces was written.
+/// Errors: `WriteFault` if a write failed. Then a prefix of the pieces was written.
 pub(crate) fn put_all<W: Write>(sink: &mut Sink<W>, pieces: &[&[u8]]) -> Result<(), WriteFault>
     requires { has_failed sink.old ≡ false }
     ensures failed { is_err result ≡ has_failed sink.new }
@@ -53,11 +53,11 @@ pub(crate) fn put_all<W: Write>(sink: &mut Sink<W>, pieces: &[&[u8]]) -> Result<
     }
 }
 
-/// Writes all pieces and sees that they are out.
+/// Writes all pieces and flushes them.
 ///
 /// Requires: the sink has not failed.
 ///
-/// Errors: `WriteFault` exactly where a write or the flush failed; then a beginning is out.
+/// Errors: `WriteFault` exactly if a write or the flush failed; then a prefix is out.
 pub fn print<W: Write>(sink: &mut Sink<W>, pieces: &[&[u8]]) -> Result<(), WriteFault>
     requires { has_failed sink.old ≡ false }
     ensures failed { is_err result ≡ has_failed sink.new }
@@ -68,7 +68,7 @@ pub fn print<W: Write>(sink: &mut Sink<W>, pieces: &[&[u8]]) -> Result<(), Write
     sink.flush()
 }
 
-/// Writes all pieces and sees that they are out, if the sink takes them.
+/// Writes all pieces and flushes them, if the sink accepts them.
 ///
 /// Requires: the sink has not failed.
 pub(crate) fn tell<W: Write>(sink: &mut Sink<W>, pieces: &[&[u8]])
@@ -78,7 +78,7 @@ pub(crate) fn tell<W: Write>(sink: &mut Sink<W>, pieces: &[&[u8]])
     let _ = print(sink, pieces);
 }
 
-/// Writes a text and sees that it is out, if the sink takes it.
+/// Writes a text and flushes it, if the sink accepts it.
 ///
 /// Requires: the sink has not failed.
 pub(crate) fn tell_text<W: Write>(sink: &mut Sink<W>, text: &str)

@@ -1,5 +1,5 @@
-//! Why a plan is refused, and the line that tells it: the refusal's name and number, and the key or the
-//! line of a program at which it is. No call takes memory or waits, unless the sink's writer does.
+//! The line that reports why a plan is rejected: the error's name and number, and its place, a key
+//! or a line of a program. No call takes memory or waits, unless the sink's writer does.
 
 ghost use Rattle.std.specs.Prelude.{◌≡◌, ◌++◌, ◌∷◌, [], codes, decimal, false};
 ghost use Rattle.{tracer.specs.Sinks.has_failed, mctower.specs.{Output.{IsTold, between}, PlanFaults.{fault_name, guest_line, key_line, plan_line}}};
@@ -12,7 +12,7 @@ use itoa::Buffer;
 use std::io::Write;
 use tracer::Sink;
 
-/// The name and the number of what is wrong with a line of a program.
+/// Returns the name and the number of what is wrong with a line of a program.
 fn fault_name(fault: GuestFault) -> &'static str
     ensures { result.now ≡ fault_name fault }
 {
@@ -26,7 +26,7 @@ fn fault_name(fault: GuestFault) -> &'static str
     }
 }
 
-/// Puts out the line of a refusal of this name, and of a key that stands in no thread's table.
+/// Writes the line of an error of this name, and of a key that is in no thread's table.
 fn put_key<W: Write>(sink: &mut Sink<W>, name: &'static str, key: &'static str)
     requires { has_failed sink.old ≡ false }
     ensures { IsTold (between W.contents sink.old sink.new) (codes "error: " ++ (name.now ++ (key.now ++ 10 ∷ []))) }
@@ -36,7 +36,7 @@ fn put_key<W: Write>(sink: &mut Sink<W>, name: &'static str, key: &'static str)
     tell(sink, &[b"error: ".as_slice(), name, key, b"\n".as_slice()]);
 }
 
-/// Puts out the line of a refusal of this name, and of a key that stands in the table of a thread.
+/// Writes the line of an error of this name, and of a key that is in the table of a thread.
 fn put_thread_key<W: Write>(sink: &mut Sink<W>, name: &'static str, thread: Tid, key: &'static str)
     requires { has_failed sink.old ≡ false }
     ensures { IsTold (between W.contents sink.old sink.new)
@@ -57,7 +57,7 @@ fn put_thread_key<W: Write>(sink: &mut Sink<W>, name: &'static str, thread: Tid,
     tell(sink, &pieces);
 }
 
-/// Puts out the line of a refusal of this name, and of the key at which it is.
+/// Writes the line of an error of this name, and of the key at which it is.
 fn write_key<W: Write>(sink: &mut Sink<W>, name: &'static str, key: PlanKey)
     requires { has_failed sink.old ≡ false }
     ensures { IsTold (between W.contents sink.old sink.new) (key_line name.now key) }
@@ -73,7 +73,7 @@ fn write_key<W: Write>(sink: &mut Sink<W>, name: &'static str, key: PlanKey)
     }
 }
 
-/// Puts out the line of what is wrong with a line of a thread's program.
+/// Writes the line of what is wrong with a line of a thread's program.
 fn put_guest<W: Write>(sink: &mut Sink<W>, thread: Tid, line: usize, fault: GuestFault)
     requires { has_failed sink.old ≡ false }
     ensures { IsTold (between W.contents sink.old sink.new) (guest_line thread line fault) }
@@ -95,7 +95,7 @@ fn put_guest<W: Write>(sink: &mut Sink<W>, thread: Tid, line: usize, fault: Gues
     tell(sink, &pieces);
 }
 
-/// Tells why a plan is refused, and sees that it is out, if the sink takes it. Takes no memory.
+/// Reports why a plan is rejected, and flushes the report, if the sink accepts it. Takes no memory.
 ///
 /// Requires: the sink has not failed.
 pub(crate) fn write_plan_fault<W: Write>(sink: &mut Sink<W>, error: BootError)

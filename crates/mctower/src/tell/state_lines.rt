@@ -1,4 +1,4 @@
-//! The state lines: what `run` tells of the system that a schedule's steps left. No call takes
+//! The state lines: what `run` reports of the system that a schedule's steps left. No call takes
 //! memory or waits, unless the sink's writer does.
 
 ghost use Rattle.std.specs.{Prelude.{◌≡◌, ℕ, IfOk, List, Some, None, false, true, is_err, map, ◌≤◌}, List.flat_map};
@@ -13,21 +13,21 @@ use layer_traits::{Place, Reason};
 use std::io::Write;
 use tracer::{Sink, WriteFault};
 
-/// What the state lines tell of a system.
+/// What the state lines report of a system.
 #[derive(Drop)]
 pub struct State {
-    /// Why each CPU is halted, by its number; `None` where it is live.
+    /// Why each CPU is halted, by its number; `None` if it is live.
     pub halted: ArrayVec<Option<Reason>, CPUS>,
     /// Where each thread is, by its number; the first `threads` count.
     pub places: [Place; THREADS],
     /// How many threads there are.
     pub threads: usize,
-    /// Whether the system is quiet.
+    /// Whether the system is quiet (quiescent).
     pub is_quiet: bool,
     ghost few: { threads ≤ THREADS },
 }
 
-/// The word for a CPU: it is live, or why it is halted.
+/// Returns the word for a CPU: it is live, or why it is halted.
 fn halted_word(halted: Option<Reason>) -> &'static str
     ensures { result.now ≡ halted_word halted }
 {
@@ -39,7 +39,7 @@ fn halted_word(halted: Option<Reason>) -> &'static str
     }
 }
 
-/// The name of a place.
+/// Returns the name of a place.
 fn place_name(place: Place) -> &'static str
     ensures { result.now ≡ place_name place }
 {
@@ -55,7 +55,7 @@ fn place_name(place: Place) -> &'static str
     }
 }
 
-/// The number of the CPU or of the buffer at which a place is.
+/// Returns the number of the CPU or of the buffer at which a place is.
 fn place_number(place: Place) -> Option<u8>
     ensures { result ≡ place_number place }
 {
@@ -70,7 +70,7 @@ fn place_number(place: Place) -> Option<u8>
     }
 }
 
-/// The line of a CPU, with this word.
+/// Writes the line of a CPU, with this word.
 ///
 /// Requires: the sink has not failed.
 ///
@@ -95,7 +95,7 @@ pub(crate) fn put_cpu<W: Write>(sink: &mut Sink<W>, cpu: u64, word: &str) -> Res
     )
 }
 
-/// The line of a thread.
+/// Writes the line of a thread.
 fn put_thread<W: Write>(sink: &mut Sink<W>, thread: u64, place: Place) -> Result<(), WriteFault>
     requires { has_failed sink.old ≡ false }
     ensures failed { is_err result ≡ has_failed sink.new }
@@ -134,7 +134,7 @@ fn put_thread<W: Write>(sink: &mut Sink<W>, thread: u64, place: Place) -> Result
     }
 }
 
-/// The lines of the CPUs.
+/// Writes the lines of the CPUs.
 fn put_cpus<W: Write>(sink: &mut Sink<W>, halted: &[Option<Reason>]) -> Result<(), WriteFault>
     requires { has_failed sink.old ≡ false }
     ensures failed { is_err result ≡ has_failed sink.new }
@@ -146,7 +146,7 @@ fn put_cpus<W: Write>(sink: &mut Sink<W>, halted: &[Option<Reason>]) -> Result<(
     Ok(())
 }
 
-/// The lines of the threads.
+/// Writes the lines of the threads.
 fn put_threads<W: Write>(sink: &mut Sink<W>, places: &[Place]) -> Result<(), WriteFault>
     requires { has_failed sink.old ≡ false }
     ensures failed { is_err result ≡ has_failed sink.new }
@@ -158,7 +158,7 @@ fn put_threads<W: Write>(sink: &mut Sink<W>, places: &[Place]) -> Result<(), Wri
     Ok(())
 }
 
-/// The line on the whole system.
+/// Writes the line on the whole system.
 fn put_quiet<W: Write>(sink: &mut Sink<W>, is_quiet: bool) -> Result<(), WriteFault>
     requires { has_failed sink.old ≡ false }
     ensures failed { is_err result ≡ has_failed sink.new }
@@ -176,7 +176,7 @@ impl State {
 
     /// Writes the state lines.
     ///
-    /// Errors: `WriteFault` exactly where the sink failed; then a beginning of the lines is out.
+    /// Errors: `WriteFault` exactly if the sink failed; then a prefix of the lines is out.
     fn put<W: Write>(&self, sink: &mut Sink<W>) -> Result<(), WriteFault>
         requires { has_failed sink.old ≡ false }
         ensures failed { is_err result ≡ has_failed sink.new }
@@ -187,8 +187,8 @@ impl State {
         put_quiet(sink, self.is_quiet)
     }
 
-    /// Tells the state of a system by its state lines and sees that they are out, if the sink takes
-    /// them. Takes no memory.
+    /// Reports the state of a system in its state lines and flushes them, if the sink accepts them.
+    /// Takes no memory.
     ///
     /// Requires: the sink has not failed.
     pub fn write_report<W: Write>(&self, sink: &mut Sink<W>)

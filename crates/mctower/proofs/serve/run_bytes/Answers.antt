@@ -8,13 +8,13 @@ use Rattle.{mctower.proofs.TabledLemmas.state_of_run, cpu.specs.Claims.Shown}
 use Rattle.mctower.specs.declared.run.run_faults.Fault.TheVariants as run
 use Rattle.mctower.proofs.serve.run_bytes.Goals as goal
 
--- what is to be told of a run whose text was put out, and nothing more behind it
+-- what is reported of a run whose text was written, and nothing after it
 told : (plan : BootPlan) (steps : List CpuId) (s : Shown) (state : State) (answer : Result Done Refusal) (failed : Bool) → IsRunOf NoCondition plan steps s
     → IsStateOf NoCondition s state → answer ≡ (if failed then Err WriteFault else Ok (Ran state)) → ReportsRun plan steps s answer failed
 told plan steps s state answer false ran is given = (state, is, state_of_run NoCondition plan steps s ran tt state is, given)
 told plan steps s state answer true ran is given = given
 
--- the trace of a run whose text was put out, where this is put out in all
+-- the trace of a run whose text was written, if this is all that was written
 traced : (steps : List CpuId) (plan : BootPlan) (s : Shown) (answer : Result Done Refusal) (first whole : Output)
     (is : IsPrinted NoCondition plan steps s first) → PutsRun plan steps s is.out.text answer whole → RunsTrace plan steps answer whole
 traced steps plan s answer first whole is put = record {
@@ -29,7 +29,7 @@ traced steps plan s answer first whole is put = record {
   put = put;
 }
 
--- the text of a run is out, and then nothing more was put out
+-- the text of a run is written, and then nothing more
 ran_out : (steps : List CpuId) (ran : Result Shown Fault) (state : State) (read : Result BootPlan BootError) (answer : Result Done Refusal)
     (first whole : Output) → RunsTextOn NoCondition read steps ran first → Tells ran (Ok state)
     → answer ≡ (if whole.failed then Err WriteFault else Ok (Ran state)) → Outs whole.failed first.new whole.new [] → first.old ≡ whole.old
@@ -53,7 +53,7 @@ fault_ran steps (Err e) (run.NoMemory refused) out runs = inl (refl, runs)
 fault_ran steps (Err e) (run.Boot f) out runs = inr (ap (λ x. Err (BadPlan x)) runs.0, runs.1)
 fault_ran steps read other out runs = absurd runs
 
--- and one of which a fault is told
+-- and one of which a fault is reported
 fault_told : (steps : List CpuId) (ran : Result Shown Fault) (read : Result BootPlan BootError) (fault : Fault) (out : Output)
     → RunsTextOn NoCondition read steps ran out → Tells ran (Err fault)
     → RefusedBy lacks_memory (Err (from_fault fault)) out ⊎ OfPlan (ServesPlan steps) read (Err (from_fault fault)) out

@@ -43,10 +43,10 @@ returns g c =
 
 pub call_over-requires-send-L : goal.call_over-requires-send-L
 call_over-requires-send-L g c = λ κs within.
-    param_send _ (lts.arg-11-0 g.row.N g.row.R g.N.laws g.R.laws g.N.Native-dict g.R.Threads-dict g.R.Wait-dict g.N.Destruct-dict κs)
+    param_send _ (lts.arg-12-0 g.row.N g.row.R g.N.laws g.R.laws g.N.Native-dict g.R.Threads-dict g.R.Wait-dict g.N.Destruct-dict κs)
     (search (arg_send, turn_send))
 
 pub call_over-requires-send-L-Machine : goal.call_over-requires-send-L-Machine
 call_over-requires-send-L-Machine g c = λ κs within.
-    param_send _ (lts.arg-11-3 g.row.N g.row.R g.N.laws g.R.laws g.N.Native-dict g.R.Threads-dict g.R.Wait-dict g.N.Destruct-dict κs)
+    param_send _ (lts.arg-12-3 g.row.N g.row.R g.N.laws g.R.laws g.N.Native-dict g.R.Threads-dict g.R.Wait-dict g.N.Destruct-dict κs)
     (search (arg_send, tower_seat_send))

@@ -2,7 +2,7 @@ use Rattle.std.proofs.Common.{ap, subst, sym, ◌∙◌}
 use Rattle.{layer_traits.specs.{Layers.BufferLaw.Buffering, Views.OwnParts.threads_in}, cpu_workers.{specs.Calls.MayPollBegun, proofs.Going.keeps_on}}
 use Rattle.cpu_workers.proofs.workers.calling.poll_once.Goals as goal
 
--- a look leaves what is under way, and the call
+-- a poll leaves what is under way, and the call
 pub returns-then-look-clause-goes : goal.returns-then-look-clause-goes
 returns-then-look-clause-goes g c =
     let e = c.look.ensures in (
@@ -11,7 +11,7 @@ returns-then-look-clause-goes g c =
       keeps_on _ _ (g.met.I.CallLayer.own_cpu _ _ c.requires.fits) c.args.t c.args.call.now e.seen (ap (λ (own : Buffering). own.call_states) e.own),
     )
 
--- no look: nothing has changed
+-- no poll: nothing has changed
 
 pub returns-in-Calls-clause-goes : goal.returns-in-Calls-clause-goes
 returns-in-Calls-clause-goes g c = let still = c.look.ensures.still c.if-look.false in rw (still.0, still.1) at c.poll_call.ensures.goes

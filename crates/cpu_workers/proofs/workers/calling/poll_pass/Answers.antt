@@ -1,7 +1,7 @@
 use Rattle.cpu_workers.proofs.Going.{ended_on, keeps_on}
 use Rattle.cpu_workers.proofs.workers.calling.poll_pass.Goals as goal
 
--- a pass sees effects of others alone, and leaves the call as it is
+-- a pass sees only effects of others, and leaves the call as it is
 
 pub returns-in-Some-clause-on : goal.returns-in-Some-clause-on
 returns-in-Some-clause-on g c =

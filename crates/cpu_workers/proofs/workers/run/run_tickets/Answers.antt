@@ -47,10 +47,10 @@ returns g c =
 
 pub run_over-requires-send-L : goal.run_over-requires-send-L
 run_over-requires-send-L g c = λ κs within.
-    param_send _ (lts.arg-13-0 g.row.K g.row.G g.row.R g.K.laws g.G.laws g.R.laws g.K.PlanWords g.K.PlanWords-dict g.K.TableWords g.K.TableWords-dict g.G.Gate
+    param_send _ (lts.arg-14-0 g.row.K g.row.G g.row.R g.K.laws g.G.laws g.R.laws g.K.PlanWords g.K.PlanWords-dict g.K.TableWords g.K.TableWords-dict g.G.Gate
     g.G.Gate-dict g.R.Threads g.R.Threads-dict g.R.Wait g.R.Wait-dict g.K.Destruct-dict κs) (search (arg_send, turn_send))
 
 pub run_over-requires-send-L-Machine : goal.run_over-requires-send-L-Machine
 run_over-requires-send-L-Machine g c = λ κs within.
-    param_send _ (lts.arg-13-3 g.row.K g.row.G g.row.R g.K.laws g.G.laws g.R.laws g.K.PlanWords g.K.PlanWords-dict g.K.TableWords g.K.TableWords-dict g.G.Gate
+    param_send _ (lts.arg-14-3 g.row.K g.row.G g.row.R g.K.laws g.G.laws g.R.laws g.K.PlanWords g.K.PlanWords-dict g.K.TableWords g.K.TableWords-dict g.G.Gate
     g.G.Gate-dict g.R.Threads g.R.Threads-dict g.R.Wait g.R.Wait-dict g.K.Destruct-dict κs) (search (arg_send, tower_seat_send))

@@ -1,4 +1,4 @@
--- One digit, two or three, read one behind another.
+-- One digit, two or three, read one after another.
 use Rattle.std.proofs.Common.{◌+◌, ◌*◌, refl, arith}
 use Rattle.mctower.proofs.ScheduleLemmas.{digit_more, first_digit, front_item, two_digits}
 use Rattle.mctower.proofs.line.schedules.cpu_digits.Goals as goal

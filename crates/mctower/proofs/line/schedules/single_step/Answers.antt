@@ -1,4 +1,4 @@
--- The digits are the first item, and a text may be cut behind a comma.
+-- The digits are the first item, and a text may be cut after a comma.
 use Rattle.std.proofs.{Common.{◌<◌, get_or, arith}, lemmas.Str.IsCharBoundary-after_ascii}
 use Rattle.{mctower.{proofs.ScheduleLemmas.step_cut}}
 use Rattle.mctower.proofs.line.schedules.single_step.Goals as goal

@@ -1,5 +1,5 @@
 use Rattle.std.{proofs.Common.refl, specs.Fmt.digits}
-use Rattle.mctower.proofs.tell.refusal_lines.wanted.Goals as goal
+use Rattle.mctower.proofs.tell.refusal_lines.expected.Goals as goal
 
 pub returns-in-Cpus : goal.returns-in-Cpus
 unfolding digits
