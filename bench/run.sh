@@ -6,7 +6,7 @@ if [ "${1:-}" = --help ]; then sed -n '2,/^[^#]/ s/^# \{0,1\}//p' "$0"; exit; fi
 set -eu
 cd "$(dirname "$0")"
 . ./measure.sh
-for plain in ../tests/plain_tower ../tests/plain_check plain_count; do rustc -O -o "$work/${plain##*/}" "$plain.rs"; done
+for plain in ../tests/plain_tower ../tests/plain_check fast_check plain_count; do rustc -O -o "$work/${plain##*/}" "$plain.rs"; done
 ./make.py plan > "$work/plan"; ./make.py plan through > "$work/through"; ./make.py schedule > "$work/schedule"
 ./make.py trace > "$work/trace"; : > "$work/nothing"
 
@@ -24,6 +24,9 @@ done
 plain=("$work/plain_check"); mine=("$ours" check)
 run mine "$work/trace"; [ "$(cat "$work/out")" = yes ] || echo "check rejects the trace"
 measure "check, 524,288 entries" "$work/trace" 21 30
+plain=("$work/fast_check")
+run plain "$work/trace"; [ "$(cat "$work/out")" = yes ] || echo "the checker written for speed refuses the trace"
+measure "check, 524,288 entries, beside a checker written for speed" "$work/trace" 21 30
 
 # Eight threads on fewer processors can take very long over a fair lock, so each turn ends after 10 seconds.
 plain=(timeout 10 "$work/plain_count" 8 1000 1 ticket); mine=(timeout 10 "$ours" count --cpus 8 --times 1000 --lock ticket)

@@ -393,6 +393,14 @@ def notes_on(plan, name, schedule):
     return "".join(f"kernel: {note}\n" for note in notes)
 
 
+def is_deadlocked(kernel):
+    """Whether no thread can ever proceed: some thread has not ended, and no CPU runs one, or has one ready, in its hand or pending. `quiet` says less: a CPU
+    that polls its empty pending queue makes it `no`."""
+    is_idle = all(cpu.current is None and cpu.hand is None and not cpu.ready and not cpu.block for cpu in kernel.cpus)
+    is_empty = not any(kernel.blocks["pending", c] for c in range(len(kernel.cpus)))
+    return is_idle and is_empty and any(guest.place != "Ended" for guest in kernel.guests)
+
+
 def main(words):
     asked = asked_of(words)
     try:
@@ -415,6 +423,8 @@ def main(words):
     sys.stdout.write(kernel.text())
     sys.stdout.flush()
     sys.stderr.write(kernel.states() + notes_on(plan, file_name(asked.plan), schedule))
+    if sys.stderr.isatty() and is_deadlocked(kernel):  # for a reader alone: what a program reads is what `mctower run` prints
+        sys.stderr.write("kernel: deadlock: no thread can ever proceed\n")
     return 0
 
 

@@ -139,11 +139,13 @@ function partInWords(seen, {cpu, word, part, entry}) {
   return {first: EDITS[word](seen), small: edits};
 }
 
+const HALTS = {AllEnded: "all its threads have ended", TraceFull: "its trace is full: enlarge trace in the plan"};
+
 // The words of step `at`: who acts, one sentence on what was done, the mechanics in small, and whether a call took effect.
 function wordsOf(run, at) {
   if (at === 0) return {who: "", first: "Before the first step", small: "each thread is ready at its home CPU"};
   const step = run.step(at), who = `CPU ${step.cpu}` + (["", "alone"].includes(step.part) ? "" : ` ${step.word}`);
-  if (step.part === "") return {who, first: "takes no step", small: run.cell(`c${step.cpu}.state`, at)};
+  if (step.part === "") return {who, first: "takes no step", small: HALTS[run.cell(`c${step.cpu}.state`, at)]};
   const seen = scene(run, at);
   return {who, effect: false, ...(step.part === "alone" ? aloneInWords(seen, step) : partInWords(seen, step))};
 }
@@ -390,8 +392,16 @@ function orderTable(run, at) {
   const head = `<th>step</th>${unseen}<th title="buffer">buf</th><th title="message">msg</th><th>op</th><th>pos</th>`;
   return `<table><thead><tr>${head}</tr></thead><tbody>${rows.join("")}</tbody></table>${rows.length ? "" : '<p class="none">none</p>'}`;
 }
+// Whether no thread can ever proceed: some thread has not ended, and no CPU runs one, or has one ready, in its hand or pending. A CPU that is inside of a lock
+// which is none may have one in its copy.
+function isDeadlocked(run, at) {
+  const cell = (c, name) => run.cell(`c${c}.${name}`, at), isEmpty = c => ["ready", "pending"].every(name => cell(c, name).length === 0) && cell(c, "hand") === null;
+  const isIdle = c => cell(c, "current") === null && isEmpty(c) && !(run.record.wrong && cell(c, "doing") === "inside");
+  return counted(run.record.cpus).every(isIdle) && run.record.threads.some((_, t) => run.place(t, at) !== "Ended");
+}
 function quietLine(run, at) {
-  return `<p>${proved(run)} ${run.cell("quiet", at) ? "<b>quiet</b>: nobody goes on" : "not quiet"}</p>`;
+  const isDead = isDeadlocked(run, at), quiet = run.cell("quiet", at) ? `<b>quiet</b>${isDead ? "" : ": nobody goes on"}` : "not quiet";
+  return `<p>${proved(run)} ${quiet}</p>${isDead ? "<p><b>deadlock</b>: no thread can ever proceed</p>" : ""}`;
 }
 // What each law says, for who points at it.
 const LAW_MEANINGS = {

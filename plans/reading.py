@@ -191,7 +191,7 @@ def meant(table, name):
     found = difflib.get_close_matches(name, [key for key in table if key not in known], 1, 0.6)
     if found:
         return f". Did you mean {shown(found[0])}, on line {table.lines[found[0]]}?"
-    inner = [value for tables in table.values() if is_array(tables) for value in tables if is_table(value) and name in value]
+    inner = [value for tables in table.values() for value in (tables if is_array(tables) else [tables]) if is_table(value) and name in value]
     return f". One stands on line {inner[0].lines[name]}, below a header: put it above all headers" if inner else ""
 
 
@@ -250,6 +250,10 @@ def unknown_word(instruction, word, operands):
     """Why a line is not an instruction, by its word and the number of its operands."""
     if "#" in instruction:
         return "an instruction cannot contain a comment: put it after the string"
+    if ";" in instruction:
+        return "a string has one instruction: put the next one into its own string"
+    if word.endswith(":"):
+        return "there are no labels: a target is a line of the program, counted from 0"
     if instruction and instruction.split() != instruction.split(" "):
         return "expected one space between two words, and none before or after them"
     if word not in INSTRUCTIONS:

@@ -1,6 +1,7 @@
 #!/usr/bin/env python3
-"""Counts the allocations of whole runs of the built program: a longer run of the same plan makes no more of them than the shortest one, so no step, no turn
-and no section of a count allocates. The counter is tests/refuse.rs: it fails the allocation of a given number, if there is one.
+"""Counts the allocations of whole runs of the built program. A run in which each thread makes a thousand calls allocates as often as one, of the same shape,
+in which each makes one call, and a count of a thousand sections as often as a count of one. So no step, no turn and no section allocates. The counter is
+tests/refuse.rs: it fails the allocation of a given number, if there is one.
 
     tests/allocations.py [PROGRAM]
 
@@ -18,9 +19,13 @@ from named import program_at
 
 ROOT = Path(__file__).resolve().parent.parent
 MOST_STEPS = 1_048_576
-SENDER = '["set r0 1000", "set r1 1", "send 0 r0", "sub r0 r1", "jnz r0 2"]'
-RECEIVER = '["set r0 1000", "set r1 1", "recv 0 r2", "sub r0 r1", "jnz r0 2"]'
-PLAN = f"cpus = 2\ntrace = 1000\nbuffers = [4]\n[[thread]]\ncpu = 0\nprogram = {SENDER}\n[[thread]]\ncpu = 1\nprogram = {RECEIVER}\n"
+
+
+def plan_of(calls, lock):
+    """Returns a plan in which one thread sends so many messages, and another receives them."""
+    sender, receiver = ([f"set r0 {calls}", "set r1 1", call, "sub r0 r1", "jnz r0 2"] for call in ("send 0 r0", "recv 0 r2"))
+    threads = "".join(f"[[thread]]\ncpu = {cpu}\nprogram = {program}\n".replace("'", '"') for cpu, program in enumerate((sender, receiver)))
+    return f'cpus = 2\ntrace = 1000\nbuffers = [4]\nlock = "{lock}"\n{threads}'
 
 
 def rounds(steps):
@@ -53,6 +58,11 @@ class Counter:
         return low
 
 
+def asked(words, last):
+    """Returns the arguments and the input of a run: a count's last argument is how many sections, another command's input is a plan."""
+    return ([*words, last], "") if words[0] == "count" else (words, last)
+
+
 def main():
     read = argparse.ArgumentParser(description=__doc__, formatter_class=argparse.RawDescriptionHelpFormatter)
     read.add_argument("program", nargs="?", default=ROOT / "crates/mctower/out/mctower", metavar="PROGRAM")
@@ -61,15 +71,14 @@ def main():
     with tempfile.TemporaryDirectory() as room:
         counter = Counter(program, room)
         for lock in ("ticket", "grant"):
-            plan = f'lock = "{lock}"\n{PLAN}'
-            for name, short, long in [
-                ("run", ["run", "--schedule", rounds(64)], ["run", "--schedule", rounds(MOST_STEPS // 8)]),
-                ("threads", ["threads", "--turns", "1"], ["threads", "--turns", "1000000000"]),
-                ("count", ["count", "--cpus", "4", "--times", "1", "--lock", lock], ["count", "--cpus", "4", "--times", "1000", "--lock", lock]),
+            counting = ["count", "--cpus", "4", "--lock", lock, "--times"]
+            for name, words, short, long in [
+                ("run", ["run", "--schedule", rounds(MOST_STEPS // 8)], plan_of(1, lock), plan_of(1000, lock)),
+                ("threads", ["threads", "--turns", "1000000000"], plan_of(1, lock), plan_of(1000, lock)),
+                ("count", counting, "1", "1000"),
             ]:
-                text = "" if name == "count" else plan
-                few = counter.count(short, text)
-                is_refused, run = counter.run(long, text, REFUSE_FROM=few + 1)
+                few = counter.count(*asked(words, short))
+                is_refused, run = counter.run(*asked(words, long), REFUSE_FROM=few + 1)
                 found = (run.returncode, is_refused, few > 0)
                 if found == (0, False, True):
                     passed += 1

@@ -1,8 +1,9 @@
 #!/usr/bin/env python3
 """Tests the lessons and the names on all pages: runs every command of docs/book and compares its output with the page, byte for byte; searches the tree for
 each file, public name and clause that a page names; compares the plan and the output in README.md with the files, and its version with CHANGELOG.md and the
-help; applies the patches of docs; draws each picture again; compares plans/kernel.py with the expected output of each plan; builds and runs, without proof,
-the crates that a page writes (`rt try`). .ci/run calls it; it takes two minutes of processor time, most of it for builds.
+help, and the titles of the page's lessons with those of the book; applies the patches of docs; draws each picture again; compares plans/kernel.py with the
+expected output of each plan; builds and runs, without proof, the crates that a page writes (`rt try`). .ci/run calls it; it takes two minutes of processor
+time, most of it for builds.
 
 In a lesson's run of a kernel with a mistake, each law that the page names must break in the step that the page says, and in no earlier one.
 
@@ -13,12 +14,14 @@ A command is a line `$ ..` of a block marked `console`; the lines after it are i
 page, --write puts the output into the page and draws the pictures; read them before you commit. The last line is 'book: N passed, M failed'.
 """
 import argparse
+import json
 import os
 import re
 import shutil
 import subprocess
 import sys
 import tempfile
+from itertools import zip_longest
 from pathlib import Path
 
 ROOT = Path(__file__).resolve().parent.parent
@@ -30,7 +33,7 @@ from named import program_at  # noqa: E402
 from reading import read_plan  # noqa: E402
 from schedules import chosen, steps_of  # noqa: E402
 
-BOOK = ROOT / "docs/book"
+BOOK, PAGE_LESSONS = ROOT / "docs/book", ROOT / "web/page/lessons.json"
 CRATES = [line.split(":")[0] for line in (ROOT / "crates.txt").read_text().splitlines() if ":" in line]
 BLOCK = re.compile(r"(?<=^```console\n)(.*?)(?=^```$)", re.M | re.S)
 FILE = re.compile(r"`((?:crates|plans|docs|tests|tools|bench|web)/[\w./-]+)`")
@@ -51,7 +54,7 @@ PATH = re.compile(r"^\.?[\w-]+(?:/[\w.-]+)+/?$|^[\w-]+\.(?:rt|antt|edit|md|py|sh
 WORD = re.compile(r"^[A-Za-z_]\w*(?:::[A-Za-z_]\w*)*(?:\(\d+\))?$")
 LINK = re.compile(r"\]\(([^):\s]+)\)")
 # The files whose words are the tree's names.
-READ = {".rt", ".antt", ".edit", ".py", ".sh", ".rs", ".js", ".mjs", ".c", ".h", ".S", ".toml", ".patch"}
+READ = {".rt", ".antt", ".edit", ".py", ".sh", ".rs", ".js", ".mjs", ".c", ".h", ".S", ".in", ".toml", ".patch"}
 # A line of a source that is a comment: what only a comment says is not there.
 REMARK = re.compile(r"^\s*(?://|-- |# |/\* ).*$", re.M)
 # What docs cite and no file of this tree says: crates of the kit, and the end of a family of names.
@@ -156,7 +159,7 @@ def has_run(link):
     """Whether a link to the page names a plan and a mistake that there are, or one of the page's lessons."""
     run, lesson = PAGE_LINK.search(link), LESSON_LINK.search(link)
     if lesson is not None:
-        return f'"lesson": "{lesson[1]}. ' in (ROOT / "web/page/lessons.json").read_text(encoding="utf-8")
+        return f'"lesson": "{lesson[1]}. ' in PAGE_LESSONS.read_text(encoding="utf-8")
     return run is not None and run[2] in WRONG and (ROOT / f"plans/{run[1]}.toml").exists()
 
 
@@ -255,6 +258,16 @@ def version(faults):
     return len(told)
 
 
+def titles(faults):
+    """Holds the titles of the page's lessons against those of the book; tells how many that were."""
+    told = [lesson["lesson"] for lesson in json.loads(PAGE_LESSONS.read_text(encoding="utf-8"))]
+    wanted = [page.read_text().splitlines()[0].removeprefix("# ") for page in sorted(BOOK.glob("[0-9]*.md"))]
+    for title, other in zip_longest(told, wanted):
+        if title != other:
+            faults.append(f"{PAGE_LESSONS.name}: a lesson is {title!r}, and in docs/book {other!r}")
+    return len(wanted)
+
+
 def patched(faults):
     """Tries whether each patch of docs goes onto the tree as it stands; tells how many patches that were."""
     patches = sorted(ROOT.glob("docs/*.patch"))
@@ -271,7 +284,8 @@ def names(faults):
     listed = subprocess.run(["git", "ls-files", "-co", "--exclude-standard", "*.md"], cwd=ROOT, stdout=subprocess.PIPE, text=True, check=True).stdout
     pages = [ROOT / name for name in listed.splitlines() if (ROOT / name).is_file()]
     count = sum(cited(page, words, files, faults) for page in sorted(pages))
-    return count + sum(looked_up(page, faults) for page in sorted(BOOK.glob("*.md"))) + first_minute(faults) + version(faults) + patched(faults)
+    count += sum(looked_up(page, faults) for page in sorted(BOOK.glob("*.md")))
+    return count + first_minute(faults) + version(faults) + titles(faults) + patched(faults)
 
 
 def copied(room, files):

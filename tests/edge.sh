@@ -513,7 +513,7 @@ asked_by_constant() {
 }
 # Each line of the folders and files $@ of more than 160 columns, of code, proofs and scripts.
 too_long() {
-  find "$@" -name out -prune -o -type f -regex '.*\(\.ci/run\|\.\(rt\|antt\|rs\|py\|sh\|c\|S\)\)' -print 2> /dev/null \
+  find "$@" -name out -prune -o -type f -regex '.*\(\.ci/run\|\.\(rt\|antt\|in\|rs\|py\|sh\|c\|cpp\|h\|S\)\)' -print 2> /dev/null \
     | LC_ALL=C.UTF-8 xargs grep -nE '^.{161}' | cut -d: -f1,2 | sort
 }
 
@@ -575,7 +575,7 @@ source_row 'who stands on crossbeam_utils' cpu_workers "$(sed -nE 's/^([a-z_]+):
 source_row 'who names it' cpu_workers "$(grep -rlw --include='*.rt' crossbeam_utils crates/*/src | cut -d/ -f2 | sort -u)"
 source_row 'who says of what kind a counted lock is' 'mctower/src/locks/kinds.rt: impl<L: OwnedLocks<AddOne>> LockOfKind<L> for KindOf' \
   "$(cd crates && find . -path '*/src/*' -name '*.rt' -exec grep -HE '\<LockOfKind<.*> *for\>|^ *LockOfKind<.*>$' {} + | sed -e 's|^\./||' -e 's/:/: /')"
-source_row 'lines of more than 160 columns' '' "$(too_long .ci bench crates explore metal plans tests tools web)"
+source_row 'lines of more than 160 columns' '' "$(too_long .ci bench crates embed explore metal plans tests tools web)"
 
 echo "edge: $passed passed, $failed failed"
 [ "$failed" = 0 ]

@@ -11,7 +11,9 @@ status is 1 if one differs.
 """
 import io
 import os
+import pty
 import random
+import re
 import subprocess
 import sys
 import tempfile
@@ -168,6 +170,22 @@ def command(words, to, given=b""):
     return ran.returncode, ran.stdout.decode(), ran.stderr.decode()
 
 
+def at_terminals(to):
+    """What kernel.py says on a terminal of a plan whose thread waits for room for ever: after schedules that end at rest, in an idle look, and before."""
+    full = to.folder / "full.toml"
+    full.write_text(mistakes.PLAN.replace('"exit"', '"send 0 r0"'))
+    said = [at_terminal(full, steps) for steps in (59, 60, 30)]
+    return [(re.findall("quiet .*", it), "kernel: deadlock: no thread can ever proceed" in it) for it in said]
+
+
+def at_terminal(plan, steps):
+    """What kernel.py prints on standard error where that is a terminal."""
+    ours, theirs = pty.openpty()
+    with open(ours, "rb", buffering=0) as said, open(theirs, "wb", buffering=0) as terminal:
+        subprocess.run(["plans/kernel.py", str(plan), f"0*{steps}"], cwd=ROOT, stdout=subprocess.DEVNULL, stderr=terminal, timeout=60, check=True)
+        return said.read(65536).decode().replace("\r", "").strip()
+
+
 def command_lines(to):
     """What the programs of plans/ answer to a command line."""
     plan = to.folder / "refused.toml"
@@ -196,6 +214,7 @@ def command_lines(to):
     to.hold("commands", "no schedule", (status, err.splitlines()[-2:]), (0, [
         f"kernel: {lone}:1: the key locks is ignored. Did you mean lock?",
         f"kernel: {lone}: no step was taken: there is no schedule as an argument or in its first lines; plans/kernel.py --rounds prints one"]))
+    to.hold("commands", "a deadlock", at_terminals(to), [(["quiet yes"], True), (["quiet no"], True), (["quiet no"], False)])
     to.hold("commands", "many steps", (schedule_of([0] * 70000 + [1]), steps_of("0*2,1")), ("0*70000,1", [0, 0, 1]))
 
 

@@ -188,7 +188,7 @@ def none_is_lost(rows, beside, alone):
     """Nothing else misses a script that falls out of the lists of tools/gate.py."""
     page = (ROOT / "docs/GATE.md").read_text()
     told = page[page.index("- **Scripts over the program") : page.index("- **`tests/wrong-bodies.py`**")]
-    named = set(re.findall(r"`((?:tests|tools|web|metal|explore)/[\w.-]+\.(?:py|sh|mjs))`", told))
+    named = set(re.findall(r"`((?:tests|tools|web|metal|explore|embed)/[\w.-]+\.(?:py|sh|mjs))`", told))
     rows.is_so("docs/GATE.md names the scripts that the gate runs", named == {*beside, *alone}, f"{sorted(named ^ {*beside, *alone})}")
 
 

@@ -18,7 +18,7 @@ fault_of() {
   [ "$(wc -l < "$room/out")" -le $lines ] || echo "more than $lines lines"
 }
 
-for script in .ci/run $(git ls-files -- 'tests/*' 'tools/*' 'bench/*' 'plans/*' 'web/*' 'metal/*' 'explore/*' | grep -E '^[^/]+/[^/]+\.(sh|py)$'); do
+for script in .ci/run $(git ls-files -- 'tests/*' 'tools/*' 'bench/*' 'plans/*' 'web/*' 'metal/*' 'explore/*' 'embed/*' | grep -E '^[^/]+/[^/]+\.(sh|py)$'); do
   [ -x "$script" ] || continue # sourced or imported by others
   fault=$(fault_of "$script")
   if [ -z "$fault" ]; then passed=$((passed + 1)); else failed=$((failed + 1)); echo "help: $script --help: $fault"; fi

@@ -32,7 +32,7 @@ MARK = re.compile(r"^\s*(?:[-*] |\d+\. )")
 ENDS = re.compile(r"([.?!][)\"]*) +(?=[A-Z(\"\0])")
 ENTRY = re.compile(r"(.*?) \*\*(Proved|Tested|Checked|No claim)\*\*: (.*)")
 CLAUSE = re.compile(r"(?:clauses? ((?:`\w+`(?:, | and )?)+) of )?`(\w+)((?:::\w+)+)`")
-PATH = re.compile(r"`((?:tests|tools|web|metal|plans|explore|bench|\.ci)/[\w./-]+)")
+PATH = re.compile(r"`((?:tests|tools|web|metal|embed|plans|explore|bench|\.ci)/[\w./-]+)")
 # What a definition of Rattle or of its logic begins with.
 DEFINES = r"\b(?:fn|struct|enum|trait|type|const|mod|record|data|abbrev pub|abbrev|pub) "
 

@@ -39,6 +39,7 @@ tests/tables.py
 tests/plans.sh
 tests/replay.py
 tests/wrong-programs.py
+tests/allocations.py
 tests/gate.py
 tests/manual.sh
 tests/help.sh
@@ -53,12 +54,16 @@ tools/public-functions.py
 ALONE = """
 tests/edge.sh
 tests/threads.sh
+tests/parks.py
 web/in_browser.py
 metal/test.py
 metal/wrong_hosts.py
+embed/test.py
+embed/wrong_hosts.py
 """
-# These look at nothing where there is no browser or no QEMU. They end with this status then, and print why: such a one is left out, and has not failed.
-MAY_LOOK_AT_NOTHING = {"web/in_browser.py", "metal/test.py", "metal/wrong_hosts.py"}
+# These look at nothing where there is no browser, no QEMU or no C compiler. They end with this status then, and print why: such a one is left out, and has
+# not failed.
+MAY_LOOK_AT_NOTHING = {"web/in_browser.py", "metal/test.py", "metal/wrong_hosts.py", "embed/test.py", "embed/wrong_hosts.py"}
 LOOKED_AT_NOTHING = 77
 # Without these some script fails. The scripts look for rustc in that folder too.
 TOOLS = ("rt", "python3", "node", "rustc")

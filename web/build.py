@@ -25,7 +25,7 @@ import record  # noqa: E402
 
 # The page's scripts, one behind the other; those of plans/ are of the pages of runs as well.
 NAMES = ("markup", "schedule", "program", "toml", "plan", "twin", "laws", "record", "judge", "where", "session", "ownlaw", "tables", "pieces",
-         "moves", "states", "search", "beside", "finder", "player", "about", "page")
+         "moves", "groups", "states", "search", "beside", "finder", "player", "about", "page")
 SCRIPTS = [ROOT / "plans/look.js", *(PARTS / f"{name}.js" for name in NAMES)]
 POLICY = "default-src 'none'; script-src {scripts} 'wasm-unsafe-eval'; worker-src blob:; style-src {styles}; base-uri 'none'; form-action 'none'"
 PROGRAM = re.compile(r'<script type="text/plain" id="packed">(.*?)</script>', re.S)
@@ -36,9 +36,9 @@ def git(*words):
 
 
 def packed(program):
-    """The program as it stands in the page: gzipped, in base64, in lines."""
-    text = base64.b64encode(gzip.compress(program, 9, mtime=0)).decode()
-    return "\n".join(text[i:i + 160] for i in range(0, len(text), 160))
+    """The program as it stands in the page: gzipped, in base 85 without the sign that begins a tag, in lines."""
+    text = base64.b85encode(gzip.compress(program, 9, mtime=0)).decode().replace("<", ",")
+    return "\n".join(text[i:i + 8000] for i in range(0, len(text), 8000))
 
 
 def kept():

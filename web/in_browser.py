@@ -10,7 +10,6 @@ folder PICTURES it leaves a Chromium's pictures there. The last line counts; the
 import re
 import sys
 import tempfile
-import time
 from pathlib import Path
 
 ROOT = Path(__file__).resolve().parent.parent
@@ -28,6 +27,8 @@ OWN_PLAN = 'cpus = 1\\ntrace = 4\\nbuffers = [2]\\n[[thread]]\\ncpu = 0\\nprogra
 LOOPS = ('cpus = 2\\ntrace = 4\\nbuffers = [1]\\n[[thread]]\\ncpu = 0\\nprogram = ["set r0 7", "send 0 r0", "jnz r0 1"]\\n'
          '[[thread]]\\ncpu = 1\\nprogram = ["set r1 1", "recv 0 r0", "jnz r1 1"]\\n')
 
+# Whether each beginning of the run is compared with the program: until then what is said of it may move what stands beneath.
+STILL = "!window.page || page.session.evidence.counted === page.session.record.printed.length"
 SECTIONS = ("AcqQ", "Enter", "Shut", "TryPut", "TryTake", "Wait", "SigRecv", "SigSend", "RelQ", "Pend", "Drain")
 
 # In each of the stored plans, at each step: each thread is one filled chip among CPUs and buffers, and no text came from a value that is none.
@@ -105,6 +106,11 @@ class Checks:
     def at(self):
         return self.browser.read("[page.at, page.run.length]")
 
+    def click(self, selector):
+        """Clicks into the middle of what a selector names, once the page stands still."""
+        self.browser.wait(STILL, 240)
+        self.browser.click(selector)
+
     def link(self):
         """The page's link, once it stands in the address."""
         self.browser.wait("location.hash === page.link()")
@@ -134,16 +140,16 @@ class Checks:
             self.keys(*keys)
             self.holds(what, self.at()[0], step)
         for button, step in [("#on", 28), ("#back", 27), ("#first", 0), ("#last", 57)]:
-            self.browser.click(button)
+            self.click(button)
             self.holds(f"the button {button}", self.at()[0], step)
-        self.browser.click("input[value=section]")
-        self.browser.click("#first")
+        self.click("input[value=section]")
+        self.click("#first")
         self.keys("ArrowRight", "ArrowRight")
         self.holds("by sections: the switch, then AcqQ's third step", self.at()[0], 4)
-        self.browser.click("input[value=step]")
+        self.click("input[value=step]")
         self.set_value("#slide", 30, "input")
         self.holds("the slider", self.at()[0], 30)
-        self.browser.click("#order button[data-go]")
+        self.click("#order button[data-go]")
         self.holds("a click on an effect", self.at()[0], 24)
         self.holds("it says what happened", self.text("#said").startswith("CPU 1 TryPut thread 1 sends 7 to buffer 0 takes effect"), True)
         x, y = self.browser.read("(() => { const box = document.querySelector('#lanes svg').getBoundingClientRect(); return [box.x, box.y]; })()")
@@ -159,19 +165,26 @@ class Checks:
         self.holds("at the end nobody goes on", "quiet: nobody goes on" in self.text("#order"), True)
         self.holds("and the proved program says so", "the proved program prints the same" in self.text("#evidence"), True)
         self.browser.wait("document.querySelector('#evidence').textContent.includes('58 of 58')")
+        self.set_plan('cpus = 1\\ntrace = 4\\nbuffers = [1]\\n[[thread]]\\ncpu = 0\\nprogram = ["send 0 r0", "send 0 r0"]\\n')
+        for steps, quiet in ((58, "quiet"), (60, "not quiet")):
+            self.set_value("#schedule", f"'0*{steps}'")
+            self.holds(f"a deadlock after {steps} steps", f"{quiet} deadlock: no thread can ever proceed" in self.text("#order"), True)
+        self.browser.read("page.go(30)")
+        self.holds("none before it", "deadlock" in self.text("#order"), False)
 
     def play(self):
         self.open("#step=3")
+        self.browser.read("(() => { const go = page.go; window.played = []; page.go = step => { played.push(performance.now()); go.call(page, step); }; })()")
         self.keys(" ")
-        time.sleep(2.2)
+        self.browser.wait("played.length > 1")
+        self.holds("space plays", [self.text("#play"), self.browser.read("page.at === 3 + played.length")], ["stop", True])
+        self.holds("a step is shown for 0.9 s", self.browser.read("played[1] - played[0] > 800"), True)
         self.keys(" ")
         step = self.at()[0]
-        self.holds("space plays", 4 <= step <= 6, True)
-        time.sleep(1.1)
-        self.holds("and stops", self.at()[0], step)
+        self.holds("and stops", [self.text("#play"), self.browser.read("page.player.timer")], ["play", None])
         self.set_value("#speed", "'10'")
         self.keys(" ")
-        self.browser.wait(f"page.at >= {step + 5}", 10)
+        self.browser.wait(f"page.at >= {step + 5}")
         self.keys(" ")
 
     def links(self):
@@ -184,6 +197,8 @@ class Checks:
                              ("?plan=two-receivers&step=20", [20, 118])]:
             self.open(link)
             self.holds(f"the link {link}", self.at(), wanted)
+        self.open("#plan=two-senders&step=99999")
+        self.holds("a link with a step beyond the run", self.text("#refused"), "The link names step 99999 of a run of 141 steps.")
         self.open("#plan=woken-from-afar&schedule=0*13,7*2")
         self.holds("a link with a CPU that is none", self.text("#refused").startswith("error: BadCpu(4)"), True)
         for link, words in [("#plan=nowhere", "the plan nowhere"), ("#wrong=never-wrong", "the mistake never-wrong"), ("#rule=<b>", "the mistake <b>")]:
@@ -201,48 +216,50 @@ class Checks:
         self.holds("seven steps by hand", self.at(), [7, 7])
         self.keys("Backspace")
         self.holds("Backspace takes one back", self.at(), [6, 6])
-        self.browser.click("#undo")
+        self.click("#undo")
         self.holds("the button too", self.at(), [5, 5])
         self.keys(*["Backspace"] * 5)
         self.holds("back to the plan's own schedule", self.at(), [0, 57])
         self.keys("shift 0")
         self.holds("shift and 0 runs CPU 0 until its thread sleeps", self.text("#said").startswith("CPU 0 Wait thread 0 joins those that wait"), True)
-        self.browser.click("#cpus [data-run-on='1']")
+        self.click("#cpus [data-run-on='1']")
         self.holds("a CPU's own button", self.browser.read("spelledSchedule(page.session.steps)").startswith("0*13,1*"), True)
-        self.browser.click("#choices [data-choose='0']")
+        self.click("#choices [data-choose='0']")
         self.keys("r")
         self.holds("random steps are drawn and compared", self.browser.read("page.session.evidence.at(page.at)"), True)
 
     def schedules(self):
         self.open()
-        self.browser.click("#schedule")
+        self.click("#schedule")
         self.browser.read("document.querySelector('#schedule').select()")
         self.browser.type("0*13,1*10")
         self.keys("Enter")
         self.browser.read("document.querySelector('#schedule').blur()")
         self.holds("a schedule that is typed in", self.at(), [23, 23])
-        for value, error, words in [("'0*13,,1'", "error: BadSchedule(9)", "item 2"), ("'0,5'", "error: BadCpu(4)", "CPUs 0 to 1")]:
+        for value, error, words in [("'0*13,,1'", "error: BadSchedule(9)", "item 2"), ("'0,5'", "error: BadCpu(4)", "CPUs 0 to 1"),
+                                    ("'0*13 1*24'", "error: BadSchedule(9)", "Here is white space"),
+                                    ("'0*13;1'", "error: BadSchedule(9)", "A comma separates two items")]:
             self.set_value("#schedule", value)
             self.holds(f"the schedule {value} is refused", [self.text("#refused").startswith(error), words in self.text("#refused")], [True, True])
         self.set_value("#schedule", "'1*3'")
         self.holds("a good one behind it", [self.at(), self.text("#refused")], [[3, 3], ""])
-        self.browser.click("#undo")
+        self.click("#undo")
         self.holds("is taken back", self.at(), [23, 23])
 
     def plans(self):
         self.open()
-        self.browser.click("[data-panel=planPanel]")
+        self.click("[data-panel=planPanel]")
         self.set_value("#planText", "document.querySelector('#planText').value.replace('send 0', 'sned 0')")
-        self.browser.click("#runPlan")
+        self.click("#runPlan")
         self.holds("a plan that is typed in is refused", self.text("#planRefused"),
                    "error: Guest(23) thread 1 line 1 UnknownWord(10) line 13: program = [\"set r0 7\", \"sned 0 r0\"] "
                    "an instruction begins with one of set, add, sub, jnz, send, sendm, recv, recvm, close, yield, exit; near it: send")
         self.set_value("#planText", "'cpus = 2\\n<script>window.ran = 1</script>'")
-        self.browser.click("#runPlan")
+        self.click("#runPlan")
         is_shown = "<script>window.ran = 1</script>" in self.text("#planRefused")
         self.holds("a text with <script> is text", [is_shown, self.browser.read("window.ran ?? null")], [True, None])
         self.set_value("#planText", f"'{OWN_PLAN}'")
-        self.browser.click("#runPlan")
+        self.click("#runPlan")
         shown = self.browser.read("[document.querySelector('#planPanel').open, document.querySelector('#plan').value]")
         self.holds("a plan of one's own is shown", shown, [False, "your own"])
         self.holds("it begins with a schedule in rounds", self.browser.read("spelledSchedule(page.session.steps)"), "0*21")
@@ -251,24 +268,24 @@ class Checks:
         link, at = self.link(), self.at()
         self.open(link)
         self.holds("its link has it whole", [self.at(), self.browser.read("page.session.text")], [at, OWN_PLAN.replace("\\n", "\n")])
-        self.browser.click("[data-panel=planPanel]")
+        self.click("[data-panel=planPanel]")
         self.holds("keys and instructions stand beside the text", "cpus" in self.text("#planHelp") and "program" in self.text("#planHelp"), True)
         self.set_value("#planText", f"'\\ufefflocks = 1\\n{OWN_PLAN}'")
-        self.browser.click("#runPlan")
+        self.click("#runPlan")
         self.holds("a key that is ignored gets a word, behind a byte order mark too", self.text("#ignored"),
                    "line 1 of the plan: the key locks is ignored. Is lock meant?")
 
     def judge(self):
         self.open("#step=57")
-        self.browser.click("[data-panel=printedPanel]")
+        self.click("[data-panel=printedPanel]")
         printed = self.text("#printed")
         self.holds("what was printed", "mctower run --schedule '0*13,1*24,0*20' < woken-from-afar" in printed and "quiet yes" in printed, True)
-        self.browser.click("#printedPanel [data-close]")
-        self.browser.click("[data-panel=judgePanel]")
-        self.browser.click("#judge")
+        self.click("#printedPanel [data-close]")
+        self.click("[data-panel=judgePanel]")
+        self.click("#judge")
         self.holds("the judge takes this run's text", self.text("#verdict").startswith("yes"), True)
         self.set_value("#traceText", "document.querySelector('#traceText').value.replace('recv 0 7', 'recv 0 8')")
-        self.browser.click("#judge")
+        self.click("#judge")
         self.holds("and not a changed one", self.text("#verdict").startswith("no 5 WrongValue(36) line 5: e 0 0 recv 0 8 1 0"), True)
 
     def first_look(self):
@@ -283,17 +300,16 @@ class Checks:
         self.holds("laws, sections and places say what they are where one points at them", self.browser.read(titles), [])
         self.browser.read("page.go(0)")
         self.browser.read("navigator.clipboard.writeText = text => { window.copied = text; return Promise.resolve(); }")
-        self.browser.click("#copyLink")
+        self.click("#copyLink")
         self.browser.wait("window.copied")
         self.holds("copy link copies the link", self.browser.read("window.copied"), self.browser.read("location.href.split('#')[0] + page.link()"))
 
     def lesson(self, number):
         """Chooses a lesson and goes to where it breaks, if it does, once all beginnings are compared: what is said of them moves the page."""
         self.set_value("#lessonList", f"'{number}'")
-        self.browser.wait("(() => { const all = page.session.record.printed.length; "
-                          "return document.querySelector('#evidence').textContent.includes(`${all} of ${all}`); })()")
+        self.browser.wait(STILL)
         if self.browser.read(f"Boolean(page.lessons[{number}].breaks)"):
-            self.browser.click("#broken")
+            self.click("#broken")
 
     def lessons(self):
         self.open()
@@ -302,7 +318,7 @@ class Checks:
         self.holds("lesson 1 says that it is no proved kernel", self.text("#warn").startswith(warning), True)
         why = "BROKEN: sent = received ++ left: buffer 0: sent [7], received [], left []: 7 lost"
         self.holds("its law breaks at its step, and it says why", [self.at()[0], why in self.text("#order")], [16, True])
-        self.browser.click("#empty")
+        self.click("#empty")
         self.keys("0", "0", "0", "0", "1", "1", "1", "1")
         self.holds("eight steps by hand bring two CPUs into the lock", "BROKEN: one CPU inside a lock" in self.text("#order"), True)
         for number in self.browser.read("page.lessons.flatMap(({breaks}, i) => breaks ? [i] : [])"):
@@ -327,27 +343,27 @@ class Checks:
         self.open("#plan=newcomer&wrong=release-frees-the-lock")
         for guess, words in [("5", "later"), ("59", "earlier"), ("x", "a step is a number"), ("25", "✔ right")]:
             self.set_value("#guess", f"'{guess}'")
-            self.browser.click("#grade")
+            self.click("#grade")
             self.holds(f"the guess {guess}", self.text("#graded"), words)
         self.set_value("#schedule", "'0*3'")
-        self.browser.click("#grade")
+        self.click("#grade")
         self.holds("a schedule that breaks nothing", self.text("#graded"), "this schedule does not break it")
 
     def beside(self):
         """The proved kernel's run above that of a kernel with a mistake; the step that differs first is marked; and both are saved as one picture."""
         self.open("#plan=newcomer&wrong=release-frees-the-lock")
-        self.browser.click("#besideButton")
+        self.click("#besideButton")
         shown = self.browser.read("[document.querySelectorAll('#lanes svg').length, document.querySelectorAll('#lanes .differs').length]")
         self.holds("two runs, each with the mark", shown, [2, 2])
         words = "The proved kernel differs first in step 25 CPU 0 RelQ: thread 0 hands buffer 0 over to thread 1, now in CPU 0's hand, and below: "
         self.holds("it says what differs", self.text("#lanes").startswith(words), True)
-        self.browser.click("#lanes [data-go-to]")
+        self.click("#lanes [data-go-to]")
         self.holds("its button goes there", self.at()[0], 25)
         self.holds("the link keeps both", "beside=1" in self.link(), True)
         self.browser.read("(() => { const make = URL.createObjectURL; "
                           "URL.createObjectURL = blob => { window.saved = blob.text(); return make.call(URL, blob); }; })()")
-        self.browser.click("[data-panel=printedPanel]")
-        self.browser.click("#savePicture")
+        self.click("[data-panel=printedPanel]")
+        self.click("#savePicture")
         self.browser.wait("window.saved && window.saved.then(text => { window.picture = text; }) && window.picture")
         picture = self.browser.read("(() => { const drawn = new DOMParser().parseFromString(window.picture, 'image/svg+xml').documentElement; "
                                     "return [drawn.tagName, drawn.querySelectorAll('svg').length, "
@@ -362,25 +378,25 @@ class Checks:
     def laws(self):
         """A law of the reader's own: refused, looked up in each state, searched for, and kept in the link."""
         self.open("#plan=two-receivers&wrong=other-side-only&schedule=0*13,1*13,2*43,1*6,0*23")
-        self.browser.click("#order [data-panel=lawPanel]")
+        self.click("#order [data-panel=lawPanel]")
         for law, words in [("b0.holdz = 1", "“b0.holdz”: behind b0. stands one of holds"), ("b7.holds = 1", "“b7”: this plan has b0 to b0"),
                            ("b0.holds", "a condition is expected"),
                            ("t0.place = inside", "these are not compared"), ("(quiet", "“)” is expected"),
                            ("quiet; alert(1)", "“;” is no sign of a law"),
                            ("<img src=x> = 1", "a name or a number is expected")]:
             self.set_value("#lawText", repr(law))
-            self.browser.click("#takeLaw")
+            self.click("#takeLaw")
             self.holds(f"the law {law} is refused", [self.text("#lawRefused").startswith("this is no law"), words in self.text("#lawRefused")], [True, True])
         self.set_value("#lawText", "'not (b0.receive = 1 and t1.place = WaitRecv and b0.holds > 0 and b0.owner = none)'")
-        self.browser.click("#takeLaw")
-        self.browser.click("#order [data-go-to]")
+        self.click("#takeLaw")
+        self.click("#order [data-go-to]")
         self.holds("it breaks where the lost wake-up is", [self.at()[0], "BROKEN: your law: not (b0.receive" in self.text("#order")], [91, True])
         link = self.link()
         self.open(link)
         self.holds("its link keeps it", self.browser.read("page.law.text").startswith("not (b0.receive"), True)
-        self.browser.click("[data-panel=searchPanel]")
+        self.click("[data-panel=searchPanel]")
         self.set_value("#wanted", "'own'")
-        self.browser.click("#search")
+        self.click("#search")
         self.browser.wait("document.querySelector('#found').textContent !== ''", 120)
         self.holds("a search breaks it", self.text("#found").startswith("A shortest schedule that breaks your law: 0*13,1*13,2*36,0*16 78 steps"), True)
         self.open("#law=b5.holds%20%3D%200")
@@ -395,61 +411,61 @@ class Checks:
     def printed_beside(self):
         """In a lesson what is printed and judged is of the kernel that is shown, beside the proved one."""
         self.open("#plan=first-come&wrong=take-skips-the-turn&step=133")
-        self.browser.click("[data-panel=printedPanel]")
+        self.click("[data-panel=printedPanel]")
         printed = self.text("#printed")
         self.holds("both texts stand there", ["e 2 2 recv 0 7 1 1" in printed, "e 0 0 recv 0 7 1 0" in printed], [True, True])
-        self.browser.click("#printedPanel [data-close]")
-        self.browser.click("[data-panel=judgePanel]")
-        self.browser.click("#judge")
+        self.click("#printedPanel [data-close]")
+        self.click("[data-panel=judgePanel]")
+        self.click("#judge")
         self.holds("the judge reads the text of the kernel that is shown", self.text("#verdict").startswith("no 5 Pos(33)"), True)
 
     def set_plan(self, text):
         """Types a plan in, in JavaScript's own quotes, and runs it."""
-        self.browser.click("[data-panel=planPanel]")
+        self.click("[data-panel=planPanel]")
         self.set_value("#planText", f"'{text}'")
-        self.browser.click("#runPlan")
+        self.click("#runPlan")
 
     def searches(self):
         """A search: found and shown, none, stopped; and the page stays alive."""
         self.open("#plan=two-receivers&wrong=other-side-only")
-        self.browser.click("[data-panel=searchPanel]")
-        self.browser.click("#search")
+        self.click("[data-panel=searchPanel]")
+        self.click("#search")
         self.browser.wait("document.querySelector('#found').textContent !== ''", 120)
         self.holds("the shortest schedule", self.text("#found"), "A shortest schedule that breaks a law: 0*13,1*13,2*36,0*16 ✘ no lost wake-up: "
                    "buffer 0 holds 8, is free, and t1, first in its receive line, sleeps 78 steps, shortest by sections; 1,554 states were looked at.")
-        self.browser.click("#more")
+        self.click("#more")
         self.browser.wait("document.querySelector('#found').textContent.startsWith('Number 2')", 120)
         other = self.browser.read("page.finder.schedule")
         self.holds("the next is another", other != "0*13,1*13,2*36,0*16" and "no lost wake-up" in self.text("#found"), True)
-        self.browser.click("#showFound")
+        self.click("#showFound")
         self.holds("is shown", [self.at()[0] == self.at()[1], "BROKEN: no lost wake-up" in self.text("#order")], [True, True])
         self.open()
         for ways, count in [([], 85), (["bySections"], 419)]:
-            self.browser.click("[data-panel=searchPanel]")
+            self.click("[data-panel=searchPanel]")
             for way in ways:
-                self.browser.click(f"#{way}")
-            self.browser.click("#search")
+                self.click(f"#{way}")
+            self.click("#search")
             self.browser.wait("document.querySelector('#found').textContent !== ''", 120)
             self.holds("there is none", self.text("#found"),
                        f"All states seen: no schedule, however long, breaks a law. These are all {count} states that are reached.")
-            self.browser.click("#searchPanel [data-close]")
+            self.click("#searchPanel [data-close]")
         self.set_plan(LOOPS)
-        self.browser.click("[data-panel=searchPanel]")
+        self.click("[data-panel=searchPanel]")
         self.set_value("#wanted", "'deadlock'")
-        self.browser.click("#search")
+        self.click("#search")
         self.browser.wait("document.querySelector('#found').textContent !== ''", 120)
         self.holds("two loops have no deadlock, however long they run", self.text("#found"), "All states seen: no schedule, however long, ends in a deadlock. "
                    "These are all 316 states that are reached (each CPU's trace has room without end).")
         self.open("#plan=ledger")
-        self.browser.click("[data-panel=searchPanel]")
+        self.click("[data-panel=searchPanel]")
         self.set_value("#wanted", "'deadlock'")
-        self.browser.click("#search")
+        self.click("#search")
         self.browser.wait("document.querySelector('#searched').textContent.includes('states that are known')")
         self.holds("while it searches the page answers", self.browser.read("page.run.length") > 0, True)
-        self.browser.click("#stop")
+        self.click("#stop")
         self.holds("it may be stopped", [self.text("#searched"), self.browser.read("page.finder.worker")], ["stopped", None])
         self.browser.read("delete window.Worker")
-        self.browser.click("#search")
+        self.click("#search")
         self.holds("a browser without workers", self.text("#searched").startswith("this browser starts no worker, which a search needs"), True)
 
     def sizes(self):
@@ -536,7 +552,7 @@ class Checks:
     def pictures(self, folder):
         for link, name in [("#plan=two-receivers&step=59", "page"), (LOST, "lost-wake-up")]:
             self.open(link)
-            time.sleep(1)
+            self.browser.wait(STILL)
             self.browser.picture(str(folder / f"{name}.png"))
 
 

@@ -2,8 +2,8 @@
 import { readFileSync } from 'node:fs';
 import vm from 'node:vm';
 
-const SCRIPTS = ['look', 'markup', 'schedule', 'program', 'toml', 'plan', 'twin', 'laws', 'record', 'judge', 'where', 'session', 'ownlaw', 'tables', 'pieces', 'moves', 'states', 'search', 'beside'];
-const GLOBALS = { TextEncoder, TextDecoder, WebAssembly, Response, DecompressionStream, atob, performance };
+const SCRIPTS = ['look', 'markup', 'schedule', 'program', 'toml', 'plan', 'twin', 'laws', 'record', 'judge', 'where', 'session', 'ownlaw', 'tables', 'pieces', 'moves', 'groups', 'states', 'search', 'beside'];
+const GLOBALS = { TextEncoder, TextDecoder, WebAssembly, Response, DecompressionStream, performance };
 
 // The text of the page's script or data of some id.
 export function elementOf(page, id) {

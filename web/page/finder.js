@@ -1,7 +1,7 @@
 "use strict";
 // The panel of searches: a worker goes through the states of the plan and the kernel that are shown, so the page stays alive, and may be stopped.
 
-const WORKER_SCRIPTS = ["look", "schedule", "toml", "plan", "twin", "laws", "ownlaw", "tables", "pieces", "moves", "states", "search"];
+const WORKER_SCRIPTS = ["look", "schedule", "toml", "plan", "twin", "laws", "ownlaw", "tables", "pieces", "moves", "groups", "states", "search"];
 const inThousands = number => number.toLocaleString("en");
 const inMegabytes = bytes => `${Math.ceil(bytes / 1e6)} MB`;
 

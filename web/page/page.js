@@ -152,7 +152,8 @@ class Page {
     const strange = [["plan", named.plan, this.plans], ["mistake", named.mistake, this.facts.mistakes],
       ["lesson", lesson ? null : asked.get("lesson"), {}]].filter(([, name, known]) => name && !isOf(known, name));
     const lines = strange.map(([what, name]) => html`<div>The link names the ${what} <b>${name}</b>, which this page has not.</div>`);
-    if (strange.length && isTaken) fill("refused", html`${lines}`);
+    if (isTaken && step > this.run.length) lines.push(html`<div>The link names step ${step} of a run of ${this.run.length} steps.</div>`);
+    if (lines.length && isTaken) fill("refused", html`${lines}`);
     this.show();
   }
 

@@ -8,15 +8,29 @@ class Ended extends Error {
   }
 }
 
+// The digits of base 85, of which five spell four bytes.
+const DIGITS = "0123456789ABCDEFGHIJKLMNOPQRSTUVWXYZabcdefghijklmnopqrstuvwxyz!#$%&()*+-;,=>?@^_`{|}~";
+
+function bytesOf(text) {
+  const letters = text.replace(/\s/g, ""), bytes = new Uint8Array(Math.floor((letters.length * 4) / 5)), values = new Uint8Array(128);
+  [...DIGITS].forEach((digit, value) => { values[digit.charCodeAt(0)] = value; });
+  const valueAt = at => (at < letters.length ? values[letters.charCodeAt(at)] : 84);
+  const word = at => [0, 1, 2, 3, 4].reduce((sum, i) => sum * 85 + valueAt(at + i), 0);
+  for (let at = 0; at < bytes.length; at += 4) {
+    const four = word((at / 4) * 5);
+    for (let i = 0; i < 4; i++) bytes[at + i] = four >>> (24 - 8 * i);
+  }
+  return bytes;
+}
+
 class Program {
   constructor(module) {
     this.module = module;
   }
 
-  // The program as it stands in the page: gzipped, in base64.
+  // The program as it stands in the page: gzipped, in base 85.
   static async unpacked(text) {
-    const bytes = Uint8Array.from(atob(text.replace(/\s/g, "")), letter => letter.charCodeAt(0));
-    const stream = new Response(bytes).body.pipeThrough(new DecompressionStream("gzip"));
+    const stream = new Response(bytesOf(text)).body.pipeThrough(new DecompressionStream("gzip"));
     return new Program(await WebAssembly.compile(await new Response(stream).arrayBuffer()));
   }
 

@@ -1,5 +1,5 @@
 "use strict";
-// Tables of whole numbers, in typed arrays that double as they fill, within a limit of bytes.
+// Tables of whole numbers, in typed arrays that grow within a limit of bytes.
 
 class MemoryFull extends Error {}
 
@@ -14,65 +14,178 @@ class Memory {
     this.used += bytes;
   }
 
-  // An array twice as long (or `longer`) with the same numbers at its beginning. The browser may have less memory than the limit allows.
-  doubled(array, longer = 2 * array.length) {
-    this.take((longer - array.length) * array.BYTES_PER_ELEMENT);
+  // A new array. The browser may have no memory for it.
+  made(Kind, length) {
     try {
-      const more = new array.constructor(longer);
-      more.set(array);
-      return more;
+      return new Kind(length);
     } catch (fault) {
-      if (fault instanceof RangeError) throw new MemoryFull(`no array of ${longer} numbers`);
+      if (fault instanceof RangeError) throw new MemoryFull(`no array of ${length} numbers`);
       throw fault;
     }
   }
+
+  // A longer array that begins with the same.
+  longer(array, length = 2 * array.length) {
+    this.take((length - array.length) * array.BYTES_PER_ELEMENT);
+    const more = this.made(array.constructor, length);
+    more.set(array);
+    return more;
+  }
 }
 
-// One number for each pair of numbers: the first pair has 0, and each new pair the next.
-class Pairs {
-  constructor(memory, room = 256) {
-    Object.assign(this, { memory, count: 0, left: new Int32Array(room), right: new Int32Array(room), slots: new Int32Array(2 * room), mask: 2 * room - 1 });
-    memory.take(16 * room);
+// A hash of two numbers.
+function mixed(left, right) {
+  let hash = Math.imul(left, 0x9e3779b1) ^ Math.imul(right, 0x85ebca6b);
+  hash = Math.imul(hash ^ (hash >>> 15), 0x2c1b3c6d);
+  return hash ^ (hash >>> 13);
+}
+
+const ENTRY = 0xffffff, TAG = ~ENTRY; // a slot has an entry's number and one more, and eight bits of its hash; 0 is free
+const MOST_FILLED = 0.75, GROWTH = 1.5, ROOM = 256;
+
+// One number for each entry: the first has 0, and each new one the next. Entries are kept one behind the other in `keys`, `width` numbers each.
+class Numbered {
+  memory; width; keys; slots; mask; count = 0;
+
+  constructor(memory, Kind, width) {
+    memory.take(ROOM * (width * Kind.BYTES_PER_ELEMENT + 8));
+    Object.assign(this, { memory, width, keys: new Kind(ROOM * width), slots: new Int32Array(2 * ROOM), mask: 2 * ROOM - 1 });
   }
 
-  // Where a pair's number is in the slots, or the free slot where it would be. A slot has the number and one more; 0 is free.
-  slotOf(left, right) {
-    const { slots, mask } = this, lefts = this.left, rights = this.right;
-    let mixed = Math.imul(left, 0x9e3779b1) ^ Math.imul(right, 0x85ebca6b);
-    mixed = Math.imul(mixed ^ (mixed >>> 15), 0x2c1b3c6d);
-    let slot = (mixed ^ (mixed >>> 13)) & mask;
-    for (let number = slots[slot]; number !== 0 && (lefts[number - 1] !== left || rights[number - 1] !== right); number = slots[slot]) slot = (slot + 1) & mask;
-    return slot;
+  isFull() {
+    return this.width * this.count === this.keys.length || this.count >= MOST_FILLED * this.slots.length;
   }
 
-  // The number of a pair, or -1.
-  find(left, right) {
-    return this.slots[this.slotOf(left, right)] - 1;
+  // Makes room for more entries.
+  grow() {
+    const { memory, keys, width, slots, count } = this;
+    if (count === ENTRY - 1) throw new MemoryFull(`more than ${count} entries`);
+    if (width * count === keys.length) this.keys = memory.longer(keys, width * Math.min(ENTRY - 1, Math.ceil(GROWTH * count)));
+    if (count < MOST_FILLED * slots.length) return;
+    memory.take(4 * slots.length);
+    this.slots = memory.made(Int32Array, 2 * slots.length);
+    this.mask = this.slots.length - 1;
+    for (let number = 0; number < count; number++) this.enter(number, this.hashAt(width * number));
+  }
+
+  // Puts an entry's number into the slots.
+  enter(number, hash) {
+    const { slots, mask } = this;
+    let slot = hash & mask;
+    while (slots[slot] !== 0) slot = (slot + 1) & mask;
+    slots[slot] = (hash & TAG) | (number + 1);
+  }
+}
+
+// Pairs of numbers.
+class Pairs extends Numbered {
+  constructor(memory) {
+    super(memory, Int32Array, 2);
+  }
+
+  hashAt(at) {
+    return mixed(this.keys[at], this.keys[at + 1]);
   }
 
   // The number of a pair, which gets one if it has none.
   number(left, right) {
-    const slot = this.slotOf(left, right), known = this.slots[slot];
-    return known === 0 ? this.add(left, right, slot) : known - 1;
-  }
-
-  add(left, right, slot) {
-    if (this.count === this.left.length) {
-      this.grow();
-      slot = this.slotOf(left, right);
+    const { keys, slots, mask } = this, hash = mixed(left, right), tag = hash & TAG;
+    for (let slot = hash & mask, kept = slots[slot]; kept !== 0; slot = (slot + 1) & mask, kept = slots[slot]) {
+      const at = 2 * (kept & ENTRY) - 2;
+      if ((kept & TAG) === tag && keys[at] === left && keys[at + 1] === right) return at >> 1;
     }
-    this.left[this.count] = left;
-    this.right[this.count] = right;
-    this.slots[slot] = ++this.count;
-    return this.count - 1;
+    if (this.isFull()) this.grow();
+    this.keys[2 * this.count] = left;
+    this.keys[2 * this.count + 1] = right;
+    this.enter(this.count, hash);
+    return this.count++;
+  }
+}
+
+// Rows of whole numbers that are not negative, of 16 bits each until one has more.
+class Rows extends Numbered {
+  constructor(memory, width) {
+    super(memory, Uint16Array, width);
   }
 
-  // Makes room for twice as many pairs. If there is no memory for it, nothing changes.
-  grow() {
-    const left = this.memory.doubled(this.left), right = this.memory.doubled(this.right), longer = 2 * this.slots.length;
-    this.memory.take(4 * this.slots.length);
-    this.slots = new Int32Array(longer);
-    Object.assign(this, { left, right, mask: longer - 1 });
-    for (let number = 0; number < this.count; number++) this.slots[this.slotOf(left[number], right[number])] = number + 1;
+  hashAt(at) {
+    const { keys, width } = this;
+    let hash = 0;
+    for (let i = 0; i < width; i++) hash = mixed(hash, keys[at + i]);
+    return hash;
+  }
+
+  // The number of a row, which gets one if it has none.
+  number(row) {
+    const { keys, slots, mask, width } = this;
+    let hash = 0;
+    for (let i = 0; i < width; i++) hash = mixed(hash, row[i]);
+    const tag = hash & TAG;
+    for (let slot = hash & mask, kept = slots[slot]; kept !== 0; slot = (slot + 1) & mask, kept = slots[slot]) {
+      if ((kept & TAG) !== tag) continue;
+      const at = width * ((kept & ENTRY) - 1);
+      let same = 0;
+      while (same < width && keys[at + same] === row[same]) same++;
+      if (same === width) return (kept & ENTRY) - 1;
+    }
+    return this.add(row, hash);
+  }
+
+  add(row, hash) {
+    if (this.keys.BYTES_PER_ELEMENT === 2 && row.some(number => number > 0xffff)) this.widen();
+    if (this.isFull()) this.grow();
+    for (let i = 0, at = this.width * this.count; i < this.width; i++) this.keys[at + i] = row[i];
+    this.enter(this.count, hash);
+    return this.count++;
+  }
+
+  // Makes room for numbers of 32 bits.
+  widen() {
+    this.memory.take(this.keys.byteLength);
+    const keys = this.memory.made(Int32Array, this.keys.length);
+    keys.set(this.keys);
+    this.keys = keys;
+  }
+
+  // Puts the numbers of a row into another.
+  open(number, row) {
+    const { keys, width } = this, at = width * number;
+    for (let i = 0; i < width; i++) row[i] = keys[at + i];
+  }
+}
+
+// Two numbers for each pair of numbers, kept until other pairs take their place: what is not there has to be made again. A pair has two places.
+const CACHED = 4; // numbers of an entry
+class Cache {
+  constructor(memory, room) {
+    Object.assign(this, { memory, entries: new Int32Array(0), mask: 0 });
+    this.setRoom(room);
+  }
+
+  // Makes room for so many entries.
+  setRoom(room) {
+    const { memory, entries } = this;
+    if (entries.length === CACHED * room) return;
+    memory.take(4 * CACHED * room - entries.byteLength);
+    Object.assign(this, { entries: memory.made(Int32Array, CACHED * room).fill(-1), mask: room - 1 });
+    for (let at = 0; at < entries.length; at += CACHED) if (entries[at] >= 0) this.keep(...entries.subarray(at, at + CACHED));
+  }
+
+  // Where the entry of a pair is, if it is kept.
+  placeOf(one, other) {
+    const { entries } = this, first = CACHED * (mixed(one, other) & this.mask);
+    return entries[first] === one && entries[first + 1] === other ? first : first ^ CACHED;
+  }
+
+  has(at, one, other) {
+    return this.entries[at] === one && this.entries[at + 1] === other;
+  }
+
+  // Keeps an entry in its first place, and in the second what was there. Returns where it is.
+  keep(one, other, ...numbers) {
+    const at = CACHED * (mixed(one, other) & this.mask);
+    this.entries.copyWithin(at ^ CACHED, at, at + CACHED);
+    [one, other, ...numbers].forEach((number, i) => { this.entries[at + i] = number; });
+    return at;
   }
 }

@@ -76,6 +76,12 @@ function instructionFault(line, lines) {
   return at < 0 ? null : { from: [word, ...pieces.slice(0, at), ""].join(" ").length, piece: pieces[at], says: `${pieceFault(shape[at], pieces[at], lines)} (${shapeOf(word)})` };
 }
 
+// A key in a table within a table, or in one of a list of tables.
+function below(table, name) {
+  const nodes = [...table.values()].flatMap(node => (node.kind === "array" ? node.value : [node]));
+  return nodes.find(({ kind, value }) => kind === "table" && value.has(name))?.value.get(name);
+}
+
 class PlanPlaces {
   constructor(text) {
     this.text = text;
@@ -95,9 +101,9 @@ class PlanPlaces {
   key(name, t) {
     const table = t === null ? this.top : this.thread(t), allowed = (t === null ? PLAN_KEYS : THREAD_KEYS)[name], node = table.get(name);
     if (node) return { ...this.at(node.keyAt ?? node.at, name), says: `${name} is ${allowed}` };
-    const strays = [...table.keys()].filter(key => nearWords(key, [name]).length), near = table.get(strays[0]);
-    const ignored = strays.length ? `; ${strays.join(", ")} is near it and is ignored` : "", other = t === null ? {} : this.head(t);
-    const where = near ? this.at(near.keyAt ?? near.at, strays[0]) : other;
+    const strays = [...table.keys()].filter(key => nearWords(key, [name]).length), near = table.get(strays[0]), lower = near ? undefined : below(table, name);
+    const misplaced = lower ? "; this one stands below a header: put it above all headers" : "", ignored = near ? `; ${strays.join(", ")} is near it and is ignored` : misplaced;
+    const where = near ? this.at(near.keyAt ?? near.at, strays[0]) : lower ? this.at(lower.keyAt, name) : t === null ? {} : this.head(t);
     return { ...where, says: `${t === null ? "the plan" : `thread ${t}`} has no key ${name}: ${allowed}${ignored}` };
   }
 
@@ -156,13 +162,22 @@ function placeOfFault(text, fault) {
   return { line: number, text: line, from: column - 1, piece: line.slice(column - 1) };
 }
 
+// What may have gone wrong with an item of a schedule, or nothing.
+function scheduleHint(item) {
+  const [times, cpu = ""] = item.split("*"), isSwapped = readItem(item).fault && !readItem(`${cpu}*${times}`).fault;
+  if (/\s/.test(item)) return ". Here is white space: a comma, and nothing else, separates two items";
+  if (item.includes(";")) return ". A comma separates two items";
+  if (/^\*|\*$/.test(item)) return ". A number is missing beside *: 0*13 is 13 steps of CPU 0";
+  if (isSwapped) return `. The CPU comes first: is ${cpu}*${times} meant?`;
+  return /[^ -~]/.test(item) ? ". Here is a letter that is no plain digit" : /^[a-z]+$/i.test(item) ? ". The button random writes one" : "";
+}
+
 // Beside BadSchedule or BadCpu: the item that is wrong.
 function whereInSchedule(text, refusal, cpus) {
   const read = readSchedule(text), index = read.fault ? read.index - 1 : refusal.includes("BadCpu") ? read.items.findIndex(item => item.cpu >= cpus) : -1;
   if (index < 0) return {};
   const items = text.split(","), from = items.slice(0, index).map(item => `${item},`).join("").length;
-  const hint = /\s/.test(items[index]) ? ". Here is white space: a comma, and nothing else, separates two items" : /;/.test(items[index]) ? ". A comma separates two items" : "";
-  return { text, from, piece: items[index], says: `item ${index + 1}: ${read.fault ?? `the plan has the CPUs 0 to ${cpus - 1}`}${hint}` };
+  return { text, from, piece: items[index], says: `item ${index + 1}: ${read.fault ?? `the plan has the CPUs 0 to ${cpus - 1}`}${scheduleHint(items[index])}` };
 }
 
 // Beside the judge's no, such as `no 6 EmptyTake(35)`: what is wanted there, where the page's own judge finds the same fault; else what the reason means.

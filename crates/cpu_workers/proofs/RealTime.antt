@@ -5,13 +5,16 @@ use Rattle.std.proofs.{Common.{if◌then◌else◌, refl, ap, sym, ◌∙◌, su
 use Rattle.std.proofs.Common.{inl, inr}
 use Rattle.std.specs.Prelude.{filter, slice_get}
 use Rattle.event_log.specs.{declared.{entries.Entry.Entry, ids.{CpuId.CpuId, Tid.Tid}}, Actions.Action}
-use Rattle.cpu.{specs.{Cpus.{of_cpu, of_thread}, Table.Setups.{Call, Private, Setup, has_none, thread_at}, Tower.Views.TowerName}, proofs.WholeSystems.OneOrder.filter_reversed}
-use Rattle.cpu_workers.specs.{Fronts.{AreLinearizable, IsFront}, Orders.effects_of, RealTime.{ReturnedComeFirst, StandsAt, calls_begun, begun_with, thread_entries}}
+use Rattle.cpu.specs.{Cpus.{of_cpu, of_thread}, Table.Setups.{Call, Private, Setup, has_none, thread_at}, Tower.Views.TowerName}
+use Rattle.cpu.proofs.WholeSystems.OneOrder.filter_reversed
+use Rattle.cpu_workers.specs.{Fronts.{AreLinearizable, IsFront}, Orders.effects_of}
+use Rattle.cpu_workers.specs.RealTime.{ReturnedComeFirst, StandsAt, calls_begun, begun_with, thread_entries}
 use Rattle.cpu_workers.specs.RealTime.{calls_returned, returned_with}
 
 -- one entry more in front
 calls_first : (c : CpuId) (t : Tid) (e : Entry) (es : List Entry)
-    → thread_entries c t (e ∷ es) ≡ (if e.cpu.0 == c.0 then (if e.thread.0 == t.0 then e ∷ thread_entries c t es else thread_entries c t es) else thread_entries c t es)
+    → thread_entries c t (e ∷ es)
+    ≡ (if e.cpu.0 == c.0 then (if e.thread.0 == t.0 then e ∷ thread_entries c t es else thread_entries c t es) else thread_entries c t es)
 calls_first c t e es = go (e.cpu.0 == c.0) refl
   where
     thread_first : (b : Bool) → (e.thread.0 == t.0) ≡ b → of_thread t.0 (e ∷ of_cpu c es) ≡ (if b then e ∷ thread_entries c t es else thread_entries c t es)
@@ -43,7 +46,8 @@ calls_hit c t e es here its =
     ∙ ap (λ (b : Bool). (if b then 1 else 0) + length (thread_entries c t es)) its
 
 -- a prefix that contains a list has at least its calls
-calls_kept : (c : CpuId) (t : Tid) (pre more : List Entry) (p : ℕ) → length pre ≤ p → length (thread_entries c t pre) ≤ length (thread_entries c t (take p (pre ++ more)))
+calls_kept : (c : CpuId) (t : Tid) (pre more : List Entry) (p : ℕ) → length pre ≤ p
+    → length (thread_entries c t pre) ≤ length (thread_entries c t (take p (pre ++ more)))
 calls_kept c t [] more p long = omega arith
 calls_kept c t (e ∷ pre) more zero long = absurd (omega arith)
 calls_kept c t (e ∷ pre) more (suc p) long =

@@ -51,8 +51,11 @@ has_worked turns plan r stops text words same is = record {
   stops_are = same;
   is = is;
   fifo = taken_put plan.caps is.order (left_in (length plan.caps) r) is.run;
-  in_time = orders_agree r.traces is.order words.tells.report.report.order is.keeps
-      (words.tells.report.report.keeps, op_order_from plan.caps [] (empty_buffers plan.caps) words.tells.report.report.order (left_in (length plan.caps) r) words.tells.report.report.run);
+  in_time = orders_agree r.traces is.order words.tells.report.report.order is.keeps (
+    words.tells.report.report.keeps,
+    op_order_from plan.caps [] (empty_buffers plan.caps) words.tells.report.report.order (left_in (length plan.caps) r)
+        words.tells.report.report.run,
+  );
   is_run = printed_by_run plan turns r words.tells.report text is;
 }
 

@@ -9,7 +9,7 @@ before_first : (at : ℕ) (text : List ℕ) (i : ℕ) → i < length text → ((
     → (k d : ℕ) → k < length (take i text) → (get_or (take i text) k d == at) ≡ false
 before_first at text i lt before k d inside = grind (arith, length-take i text, get_or-take i text k d, get_or_default text k d 0, before k)
 
-cut_whole : (text : List ℕ) (i : ℕ) → i < length text → take i text ++ get_or text i 0 ∷ drop (i + 1) text ≡ text
+pub cut_whole : (text : List ℕ) (i : ℕ) → i < length text → take i text ++ get_or text i 0 ∷ drop (i + 1) text ≡ text
 cut_whole text i lt = rw (← drop_more text i 0 lt) (take-append-drop i text)
 
 pub cut_at : (at : ℕ) (text : List ℕ) (i : ℕ) → i < length text → ((k : ℕ) → k < i → (get_or text k 0 == at) ≡ false) → (get_or text i 0 == at) ≡ true

@@ -16,6 +16,7 @@ pub mod KnownLemmas
 pub mod MessageLemmas
 pub mod EntryLemmas
 pub mod StepLemmas
+pub mod CommonLemmas
 pub mod OpeningLemmas
 pub mod CompleteLemmas
 pub mod SoundLemmas

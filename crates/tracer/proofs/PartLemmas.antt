@@ -1,10 +1,13 @@
 -- A text that is read and judged in parts has the verdict of the whole.
-use Rattle.std.proofs.Common.{◌≡◌, ℕ, ◌+◌, ◌-◌, ◌≤◌, List, [], ◌∷◌, ◌++◌, length, take, drop, Option, Some, None, Ok, Err, refl, sym, ◌∙◌}
-use Rattle.std.proofs.{Common.{append_assoc, append-nil, eq-eqb, arith, length-append}, lemmas.List.{drop-take, length-drop, length-take, Edits.take-paste}}
+use Rattle.std.proofs.Common.{◌≡◌, ℕ, ◌+◌, ◌-◌, ◌<◌, ◌≤◌, List, [], ◌∷◌, ◌++◌, length, take, drop, Option, Some, None, Result, Ok, Err, refl, sym, ap, ◌∙◌}
+use Rattle.std.proofs.{Common.{append_assoc, append-nil, eq-eqb, arith, length-append, subst}, lemmas.List.{drop-take, length-drop, length-take}}
+use Rattle.std.proofs.lemmas.List.{nil_from_length, take-append-drop, Edits.take-paste}
 use Rattle.{std.{proofs.lemmas.List.Splits.slice_split_at, specs.Io.KnownBytes.{Consumes, IsAtEnd}}, tracer.specs.declared.checking.TextJudge.TextJudge}
-use Rattle.tracer.specs.{declared.verdicts.{Reason.Reason, Verdict.{Verdict, TheVariants.{Yes}}}, Judging.{lines_in, step, verdict_from, verdict_of}}
-use Rattle.tracer.specs.{Inputs.IsReadBehind, Lines.IsFirstLine, Parts.verdict_behind, Tallies.progress_of, Verdicts.{IsTraceOfRun, IsVerdictOn}}
-use Rattle.tracer.proofs.VerdictLemmas.{line_taken, line_refused}
+use Rattle.tracer.specs.declared.verdicts.{Reason.Reason, Verdict.{Verdict, TheVariants.{Yes}}}
+use Rattle.tracer.specs.Judging.{TextProgress, lines_in, step, verdict_from, verdict_of}
+use Rattle.tracer.specs.{Inputs.IsReadBehind, Lines.IsFirstLine, Steps.{EndsInLine, StepsOver}, Parts.verdict_behind, Tallies.{progress_of, StepsTo}}
+use Rattle.tracer.specs.Verdicts.{IsTraceOfRun, IsVerdictOn}
+use Rattle.tracer.proofs.{VerdictLemmas.{line_taken, line_refused}, CommonLemmas.ends_behind_line}
 use lib.Seq.{paste, take-add}
 
 -- ---- the bytes of a reader
@@ -44,7 +47,7 @@ pub record IsTakenTo (old : TextJudge) (part : List ℕ) (now : TextJudge) (rest
   pub counted : now.line + length rest ≤ old.line + length part
 
 -- one line more
-pub one_taken : (old : TextJudge) (part : List ℕ) (now new : TextJudge) (rest line behind : List ℕ) → IsTakenTo old part now rest → IsFirstLine rest line behind
+one_taken : (old : TextJudge) (part : List ℕ) (now new : TextJudge) (rest line behind : List ℕ) → IsTakenTo old part now rest → IsFirstLine rest line behind
     → step (progress_of now.judge) line ≡ Ok (progress_of new.judge) → new.line ≡ now.line + 1 → new.fault ≡ now.fault → IsTakenTo old part new behind
 one_taken old part now new rest line behind taken is stepped next fault = record {
   front = taken.front ++ (line ++ 10 ∷ []);
@@ -54,12 +57,55 @@ one_taken old part now new rest line behind taken is stepped next fault = record
   counted = grind (arith, length-append);
 }
 
+-- the lines of a part are judged as far as here, where it ends in a line feed
+pub record AreTakenTo (old : TextJudge) (part : List ℕ) (now : TextJudge) (rest : List ℕ) : Type 0 where
+  pub taken : IsTakenTo old part now rest
+  pub ends : 0 < length rest → EndsInLine rest
+
+pub none_taken : (old : TextJudge) (part : List ℕ) (end : ℕ) → old.fault ≡ None → (0 < end → EndsInLine (take end part)) → end ≤ length part
+    → AreTakenTo old (take end part) old (take end part)
+none_taken old part end live ends inside = record {
+  taken = record { front = []; whole = refl; judged = λ more. refl; live = live; counted = omega arith };
+  ends = λ some. ends (omega (arith, length-take end part));
+}
+
+pub steps_shorter : (s : TextProgress) (text : List ℕ) (judged : Result (Unit {0}) Reason) (now : TextProgress) (behind : List ℕ)
+    → StepsOver s text judged now behind → length behind < length text
+steps_shorter s text judged now behind over =
+    let long : length text ≡ length over.line + length (10 ∷ behind) = ap length over.is.whole ∙ length-append over.line (10 ∷ behind) in omega arith
+
+pub line_over : (old : TextJudge) (part : List ℕ) (now new : TextJudge) (rest : List ℕ) (judged : Result (Unit {0}) Reason) (behind : List ℕ) → 0 < length rest
+    → AreTakenTo old part now rest → StepsOver (progress_of now.judge) rest judged (progress_of new.judge) behind → judged ≡ Ok tt → new.line ≡ now.line + 1
+    → new.fault ≡ now.fault → AreTakenTo old part new behind
+line_over old part now new rest judged behind some so_far over ok next fault =
+    let steps = subst (λ (r : Result (Unit {0}) Reason). StepsTo (step (progress_of now.judge) over.line) r (progress_of new.judge)) ok over.steps in
+    record {
+      taken = one_taken old part now new rest over.line behind so_far.taken over.is steps next fault;
+      ends = ends_behind_line rest over.line behind (so_far.ends some) over.is;
+    }
+
 -- a line with a fault
-pub faulty_line_refused : (old : TextJudge) (part : List ℕ) (now new : TextJudge) (rest line behind : List ℕ) (reason : Reason) → IsTakenTo old part now rest
-    → IsFirstLine rest line behind → step (progress_of now.judge) line ≡ Err reason → new.line ≡ now.line → new.fault ≡ Some reason
-    → (more : List ℕ) → verdict_behind old (part ++ more) ≡ verdict_behind new (drop (length part) part ++ more)
-faulty_line_refused old part now new rest line behind reason taken is stepped same fault more =
-    grind (arith, taken.judged more, first_line rest line behind more is, line_refused)
+pub faulty_line_over : (old : TextJudge) (part : List ℕ) (end : ℕ) (now new : TextJudge) (rest : List ℕ) (judged : Result (Unit {0}) Reason)
+    (after : TextProgress) (behind : List ℕ) (reason : Reason) → AreTakenTo old (take end part) now rest
+    → StepsOver (progress_of now.judge) rest judged after behind → judged ≡ Err reason → new.line ≡ now.line → new.fault ≡ Some reason
+    → (more any : List ℕ) → verdict_behind old (part ++ more) ≡ verdict_behind new any
+faulty_line_over old part end now new rest judged after behind reason so_far over bad same fault more any =
+    let steps = subst (λ (r : Result (Unit {0}) Reason). StepsTo (step (progress_of now.judge) over.line) r after) bad over.steps in
+    let whole : part ++ more ≡ take end part ++ (drop end part ++ more) =
+    ap (λ (t : List ℕ). t ++ more) (sym (take-append-drop end part)) ∙ append_assoc (take end part) (drop end part) more in
+    ap (verdict_behind old) whole ∙ so_far.taken.judged (drop end part ++ more) ∙ live_verdict now (rest ++ (drop end part ++ more)) so_far.taken.live
+    ∙ line_refused (progress_of now.judge) now.line (rest ++ (drop end part ++ more)) over.line (behind ++ (drop end part ++ more)) reason
+    (first_line rest over.line behind (drop end part ++ more) over.is) steps
+    ∙ sym (rw (fault, same) refl)
+
+-- all lines of the part are judged
+pub all_taken : (old : TextJudge) (part : List ℕ) (end : ℕ) (now : TextJudge) (rest : List ℕ) → AreTakenTo old (take end part) now rest → length rest ≡ 0
+    → (more : List ℕ) → verdict_behind old (part ++ more) ≡ verdict_behind now (drop end part ++ more)
+all_taken old part end now rest so_far none more =
+    let whole : part ++ more ≡ take end part ++ (drop end part ++ more) =
+    ap (λ (t : List ℕ). t ++ more) (sym (take-append-drop end part)) ∙ append_assoc (take end part) (drop end part) more in
+    let nothing : rest ≡ [] = nil_from_length rest none in
+    ap (verdict_behind old) whole ∙ so_far.taken.judged (drop end part ++ more) ∙ ap (λ (t : List ℕ). verdict_behind now (t ++ (drop end part ++ more))) nothing
 
 -- ---- an input that is judged as far as it was read
 

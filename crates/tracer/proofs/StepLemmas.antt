@@ -49,7 +49,7 @@ unfolding entry_line
 entry_line_again v at caps earlier contents e few room long small high next =
     grind (arith, entry_digits_again, of_version_again, entry_in_again, lt-ltb, among_again, length_push, version_more)
 
-entries_e : (ps : List (List ℕ)) (s : TextProgress) → entries_line (codes "e" ∷ ps) s ≡ entry_line ps s
+pub entries_e : (ps : List (List ℕ)) (s : TextProgress) → entries_line (codes "e" ∷ ps) s ≡ entry_line ps s
 unfolding entries_line
 entries_e ps s = refl
 

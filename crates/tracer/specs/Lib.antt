@@ -7,6 +7,7 @@ pub mod OneOrder
 pub mod Judging
 pub mod Lines
 pub mod Tallies
+pub mod Steps
 pub mod Verdicts
 pub mod Reasons
 pub mod Inputs

@@ -6,10 +6,10 @@ ghost use Rattle.tracer.specs.{declared.verdicts.Verdict.TheVariants.Yes as Says
 ghost use Rattle.tracer.specs.{Verdicts.IsTraceOfRun, Verdicts.IsVerdictOn};
 ghost use Rattle.tracer.specs.declared.checking.InputFault.TheVariants.{NoMemory as WantOfMemory, ReadFault as FaultOfRead};
 
+use crate::common_lines::lines_end;
 use crate::judge::Judge;
 use crate::laws::yes_is_right;
 use crate::parts::Part;
-use crate::pieces::cut_line;
 use crate::reads::ReadFailed;
 use crate::verdicts::{Reason, Verdict};
 use event_log::NoMemory;
@@ -44,9 +44,10 @@ impl TextJudge {
     }
 
     /// Judges the lines that end in the part, up to the first with a fault. Gives how many bytes of
-    /// the part are judged: what stands behind them is the beginning of a line.
+    /// the part are judged: what stands after them is the beginning of a line.
     ///
     /// Requires: the number of a line stays below 2^64.
+    #[tactic(auto, using(crate::proofs::PartLemmas::none_taken, crate::proofs::PartLemmas::steps_shorter))]
     pub fn take_lines(&mut self, part: &[u8]) -> usize
         requires { self.old.line + length part.now < 2 ^ 64 }
         ensures inside { result ≤ length part.now }
@@ -56,16 +57,18 @@ impl TextJudge {
         if self.fault.is_some() {
             return part.len();
         }
-        let mut rest = part;
-        while let Some((line, behind)) = cut_line(rest) {
-            if let Err(reason) = self.judge.step(line) {
+        let end = lines_end(part);
+        let mut rest = &part[..end];
+        while !rest.is_empty() {
+            let (judged, behind) = self.judge.next_line(rest);
+            if let Err(reason) = judged {
                 self.fault = Some(reason);
                 return part.len();
             }
             self.line += 1;
             rest = behind;
         }
-        part.len() - rest.len()
+        end
     }
 
     /// The verdict, where the text ends with this beginning of a line.

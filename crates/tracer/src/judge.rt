@@ -1,22 +1,23 @@
 //! The judge of a trace text. No call takes memory or waits.
 
 ghost use Rattle.std.specs.Prelude.{◌≡◌, ◌+◌, ◌≤◌, ◌<◌, ◌==◌, ◌&&◌, ℕ, length, map, nat_lt, slice_get, true};
-ghost use Rattle.{event_log.specs.declared.ids.TheConstants.BUFFERS, tracer.specs.Judging.{text_start, version_in, head_line, end_line, count_line}};
-ghost use Rattle.tracer.specs.{Judging.{capacity_line, entry_line, entries_line, left_line, is_left, step, is_done}, Lines.left_of};
+ghost use Rattle.{event_log.specs.declared.ids.TheConstants.{BUFFERS, ENTRIES}, tracer.specs.Judging.{text_start, version_in, head_line, end_line}};
+ghost use Rattle.tracer.specs.{Judging.{count_line, capacity_line, entry_line, entries_line, left_line, is_left, step, is_done}, Lines.left_of};
 ghost use Rattle.tracer.specs.declared.next_lines.NextLine.TheVariants.{Capacities as WantsCapacities};
 
+use crate::common_lines::common_entry;
 use crate::entering::enter_among;
 use crate::lines::{
     capacity_digits, count_digits, entry_digits, entry_in, is_of_version, left_digits,
 };
 use crate::next_lines::NextLine;
-use crate::pieces::{Pieces, piece};
+use crate::pieces::{Pieces, cut_line, piece};
 use crate::tally::Tally;
 use crate::verdicts::Reason;
 use crate::versions::Version;
 use crate::words::are_within;
 use arrayvec::ArrayVec;
-use event_log::{BUFFERS, CAPACITY, ENTRIES};
+use event_log::{BUFFERS, CAPACITY, ENTRIES, Entry};
 
 /// The version that the head names.
 ///
@@ -50,7 +51,7 @@ pub struct Judge {
 }
 
 impl Judge {
-    ghost use Rattle.tracer.specs.Tallies.{progress_of, seen_in, StepsTo};
+    ghost use Rattle.tracer.specs.{Tallies.{progress_of, seen_in, StepsTo}, Steps.{judged_entry, EndsInLine, StepsOver}};
 
     /// The judge before the first line.
     pub fn new() -> Judge
@@ -72,9 +73,28 @@ impl Judge {
         matches!(self.at, NextLine::Done)
     }
 
+    /// Judges the first line of a text that ends in a line feed. Gives the first reason against it, if
+    /// there is one, and what is after its line feed. Nearly all lines are those of entries that are
+    /// read in one pass; any other is cut off first.
+    #[tactic(auto, using(crate::proofs::CommonLemmas::common_step))]
+    #[inline(always)]
+    pub fn next_line<'a>(&mut self, text: &'a [u8]) -> (Result<(), Reason>, &'a [u8])
+        requires { EndsInLine text.now }
+        ensures { StepsOver (progress_of self.old) text.now result.0 (progress_of self.new) result.1.now }
+    {
+        if matches!(self.at, NextLine::Entries) {
+            if let Some((entry, behind)) = common_entry(text) {
+                return (self.enter(&entry), behind);
+            }
+        }
+        let (line, behind) = cut_line(text).unwrap();
+        (self.step(line), behind)
+    }
+
     /// The next line, without its line feed.
     ///
     /// Errors: the first reason against the line.
+    #[inline(never)]
     #[tactic(auto, unfolding(crate::specs::Judging::step))]
     pub fn step(&mut self, line: &[u8]) -> Result<(), Reason>
         ensures { StepsTo (step (progress_of self.old) line.now) result (progress_of self.new) }
@@ -90,7 +110,7 @@ impl Judge {
         }
     }
 
-    /// The head, behind which the count may come.
+    /// The head, after which the count may come.
     #[tactic(auto, unfolding(crate::specs::Judging::head_line))]
     fn head(&mut self, line: &[u8]) -> Result<(), Reason>
         ensures { StepsTo (head_line line.now (progress_of self.old)) result (progress_of self.new) }
@@ -149,7 +169,7 @@ impl Judge {
     }
 
     /// The line of an entry, from its second piece on.
-    #[tactic(auto, unfolding(crate::specs::Judging::entry_line))]
+    #[tactic(auto, unfolding(crate::specs::Judging::entry_line, crate::specs::Steps::judged_entry))]
     fn entry(&mut self, pieces: Pieces<'_>) -> Result<(), Reason>
         ensures { StepsTo (entry_line (left_of pieces.entry) (progress_of self.old)) result (progress_of self.new) }
     {
@@ -158,11 +178,26 @@ impl Judge {
             return Err(Reason::Spelling);
         }
         let entry = entry_in(digits)?;
+        self.enter(&entry)
+    }
+
+    /// An entry that was read.
+    ///
+    /// Requires: the entry's op and its pos are less than [`ENTRIES`].
+    ///
+    /// Errors: `Range` where there were as many entries as there may be, else the first reason against
+    /// the entry.
+    #[tactic(auto, unfolding(crate::specs::Steps::judged_entry))]
+    #[inline(always)]
+    fn enter(&mut self, entry: &Entry) -> Result<(), Reason>
+        requires { (entry.now.op < ENTRIES) × (entry.now.pos < ENTRIES) }
+        ensures { StepsTo (judged_entry entry.now (progress_of self.old)) result (progress_of self.new) }
+    {
         if self.entries >= ENTRIES as u64 {
             return Err(Reason::Range);
         }
-        enter_among(self.buffers.as_mut_slice(), &entry)?;
-        self.lowest = self.lowest.both(Version::of_entry(&entry));
+        enter_among(self.buffers.as_mut_slice(), entry)?;
+        self.lowest = self.lowest.both(Version::of_entry(entry));
         self.entries += 1;
         Ok(())
     }

@@ -10,6 +10,7 @@
 #![tactic(auto)]
 
 mod checking;
+mod common_lines;
 mod effects;
 mod entering;
 mod gathering;

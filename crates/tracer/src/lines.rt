@@ -81,7 +81,7 @@ fn value_in(kind: Kind, piece: Numeral<'_>) -> Result<Msg, Reason>
     }
 }
 
-/// The digits of the entry that the pieces behind its first word spell.
+/// The digits of the entry that the pieces after its first word spell.
 ///
 /// Errors: `Spelling` if a piece is missing or left over, is no number where one is wanted, or
 /// names no kind.

@@ -12,7 +12,7 @@ use std::io::Read;
 /// How many bytes of an input are read before they are judged, where no line is longer.
 const PART: usize = 65536;
 
-/// Reads into the bytes behind the first `at` until none is left or the input ends. Gives how many
+/// Reads into the bytes after the first `at` until none is left or the input ends. Gives how many
 /// are filled, and whether the input ended.
 ///
 /// Requires: `at` is at most the number of bytes.
@@ -42,7 +42,7 @@ fn fill_behind<R: Read>(
     Ok((filled, false))
 }
 
-/// The bytes of an input that are read and not yet judged, with room behind them.
+/// The bytes of an input that are read and not yet judged, with room after them.
 #[derive(Drop)]
 pub struct Part {
     bytes: Vec<u8>,
@@ -100,7 +100,7 @@ impl Part {
         self.filled -= count;
     }
 
-    /// Makes room behind what it holds, twice as much in all where none is left, and else none. So a
+    /// Makes room after what it holds, twice as much in all where none is left, and else none. So a
     /// line of any length has room, and is looked through a few times at most.
     ///
     /// Errors: `NoMemory` if the room was refused; it holds the same.

@@ -8,7 +8,7 @@ use crate::numerals::Numeral;
 use crate::verdicts::Reason;
 use event_log::{leading_digits, number_to};
 
-/// What stands before the first byte `at` of the text, and what stands behind it.
+/// What stands before the first byte `at` of the text, and what stands after it.
 #[inline(always)]
 pub fn cut(text: &[u8], at: u8) -> Option<(&[u8], &[u8])>
     ensures none { IfNone result (slice_split (λ b. b == at) text.now ≡ text.now ∷ []) }
@@ -54,13 +54,14 @@ fn chunk_with(text: &[u8], at: u8) -> usize
     start
 }
 
-/// The first line of the text, without its line feed, and what stands behind that. A line is longer
+/// The first line of the text, without its line feed, and what stands after that. A line is longer
 /// than a piece, so its end is looked for a chunk at a time.
 pub fn cut_line(text: &[u8]) -> Option<(&[u8], &[u8])>
     ensures none { IfNone result (slice_split (λ b. b == 10) text.now ≡ text.now ∷ []) }
     ensures some { IfSome result (λ p. slice_split (λ b. b == 10) text.now ≡ p.0.now ∷ slice_split (λ b. b == 10) p.1.now) }
     ensures shorter { IfSome result (λ p. length p.0.now + 1 + length p.1.now ≡ length text.now) }
     ensures line { IfSome result (λ p. IsFirstLine text.now p.0.now p.1.now) }
+    ensures lacks { IfNone result ((k : ℕ) → k < length text.now → (get_or text.now k 0 == 10) ≡ false) }
 {
     for end in chunk_with(text, b'\n')..text.len() {
         if text[end] == b'\n' {
@@ -76,7 +77,7 @@ pub struct Pieces<'a> {
     pub rest: Option<&'a [u8]>,
 }
 
-/// The next piece, and the pieces behind it.
+/// The next piece, and the pieces after it.
 ///
 /// Errors: `Spelling` if no piece is left.
 #[inline(always)]
@@ -92,7 +93,7 @@ pub fn piece(pieces: Pieces<'_>) -> Result<(&[u8], Pieces<'_>), Reason>
     }
 }
 
-/// The pieces behind the next one.
+/// The pieces after the next one.
 ///
 /// Errors: `Spelling` if no piece is left, or the next one is not `word`.
 pub fn word<'a>(word: &[u8], pieces: Pieces<'a>) -> Result<Pieces<'a>, Reason>
@@ -105,7 +106,7 @@ pub fn word<'a>(word: &[u8], pieces: Pieces<'a>) -> Result<Pieces<'a>, Reason>
     Ok(rest)
 }
 
-/// The first piece of the text where it is a number of at most `SHORT` digits, and the pieces behind
+/// The first piece of the text where it is a number of at most `SHORT` digits, and the pieces after
 /// it: it is cut and read in one pass. `None` where it is no such number.
 #[inline(always)]
 fn short_number(text: &[u8]) -> Option<(Numeral<'_>, Pieces<'_>)>
@@ -128,7 +129,7 @@ fn short_number(text: &[u8]) -> Option<(Numeral<'_>, Pieces<'_>)>
     Some((Numeral::known(&text[..count], number), Pieces { rest }))
 }
 
-/// The next piece, read as a number where it is one, and the pieces behind it.
+/// The next piece, read as a number where it is one, and the pieces after it.
 ///
 /// Errors: `Spelling` if no piece is left.
 #[inline(always)]
@@ -147,7 +148,7 @@ pub fn numeral(pieces: Pieces<'_>) -> Result<(Numeral<'_>, Pieces<'_>), Reason>
     }
 }
 
-/// The next piece, a number, and the pieces behind it.
+/// The next piece, a number, and the pieces after it.
 ///
 /// Errors: `Spelling` if no piece is left, or the next one spells no number.
 #[inline(always)]

@@ -16,3 +16,6 @@ returns-then-text-end-eq10-clause-line c =
 
 pub returns-clause-none : goal.returns-clause-none
 returns-clause-none c = cut_none 10 c.args.text.now (λ k inside. c.loop-end.invariant k (let past = c.loop-end-test.false in omega arith))
+
+pub returns-clause-lacks : goal.returns-clause-lacks
+returns-clause-lacks c = λ k inside. c.loop-end.invariant k (let past = c.loop-end-test.false in omega arith)

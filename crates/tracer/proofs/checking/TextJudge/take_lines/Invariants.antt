@@ -1,9 +1,10 @@
--- The rest of the part is still to be judged, and is shorter each time.
-use Rattle.{std.proofs.Common.length, tracer.proofs.PartLemmas.IsTakenTo}
+-- The rest of the lines is still to be judged, and is shorter each time.
+use Rattle.std.proofs.Common.{length, take}
+use Rattle.tracer.proofs.PartLemmas.{AreTakenTo}
 use Rattle.tracer.proofs.checking.TextJudge.take_lines.Given as goal
 
-abbrev pub invariant-loop-line : goal.invariant-loop-line
-invariant-loop-line l = IsTakenTo l.initial.self l.part l.self l.rest
+abbrev pub invariant-loop-rest : goal.invariant-loop-rest
+invariant-loop-rest l = AreTakenTo l.initial.self (take l.end l.part) l.self l.rest
 
-abbrev pub decreases-loop-line : goal.decreases-loop-line
-decreases-loop-line l = length l.rest
+abbrev pub decreases-loop-rest : goal.decreases-loop-rest
+decreases-loop-rest l = length l.rest
