@@ -5,15 +5,21 @@
 # takes two minutes at most; the machine should be quiet.
 # Build first: (cd crates/mctower && rt run -- count --cpus 1 --times 1).
 #
-#   bench/locks.sh [TURNS]
+#   bench/locks.sh [--peers] [--busy] [TURNS]
+#
+# With --peers it measures 2, 4, 8 and 16 threads, also compared with the locks that a program would take instead (lock_peers.rs): pthread_mutex, the
+# standard library's Mutex, pthread_spin up to 8 threads, an MCS lock, and tickets whose waiters sleep, at once or after 10,000 polls. Prints what turns.py
+# prints, and takes four minutes at most. With --busy as many busy loops run beside it as there are processors (not with chrt, which they would inherit).
 if [ "${1:-}" = --help ]; then sed -n '2,/^[^#]/ s/^# \{0,1\}//p' "$0"; exit; fi
 set -eu
-export LC_ALL=C
 cd "$(dirname "$0")"
-ours=$(realpath ../crates/mctower/out/mctower)
+. ./measure.sh
+peers=no; [ "${1:-}" != --peers ] || { peers=yes; shift; }
+busy=no; [ "${1:-}" != --busy ] || { busy=yes; shift; }
 turns=${1:-200}
-work=$(mktemp -d); trap 'rm -rf "$work"' EXIT
 rustc -O -o "$work/plain" plain_count.rs
+rustc -O -o "$work/lock_peers" lock_peers.rs
+[ $busy = no ] || crowd
 
 # Runs a command, and adds to the file $1 what it took, in microseconds.
 timed() {
@@ -25,6 +31,28 @@ timed() {
 }
 median() { sort -n "$1" | sed -n "$((($(wc -l < "$1") + 1) / 2))p"; }
 
+# Measures all locks with $1 threads by turns. The last command is ours, with the lock of `threads`, so ratios are to that one.
+beside() {
+  local cpus=$1 peer words commands=()
+  local names=('pthread_mutex' "std's Mutex" 'MCS' 'tickets that sleep at once' 'tickets that sleep' 'plain tickets' 'plain grant words' 'ours, tickets')
+  local lines=("$work/lock_peers pthread_mutex $cpus 1000" "$work/lock_peers std $cpus 1000" "$work/lock_peers mcs $cpus 1000"
+    "$work/lock_peers parked $cpus 1000 0" "$work/lock_peers parked $cpus 1000" "$work/plain $cpus 1000 1 ticket" "$work/plain $cpus 1000 1 grant"
+    "$ours count --cpus $cpus --times 1000 --lock ticket")
+  [ "$cpus" -gt 8 ] || { names+=('pthread_spin'); lines+=("$work/lock_peers pthread_spin $cpus 1000"); }
+  names+=('ours, grant words'); lines+=("$ours count --cpus $cpus --times 1000 --lock grant")
+  for peer in "${!names[@]}"; do
+    read -ra words <<< "${lines[peer]}"
+    timed "$work/first" "${words[@]}"
+    commands+=(-- "${names[peer]}" timeout 10 "${words[@]}")
+  done
+  echo "$cpus threads, 1,000 sections each:"
+  ./turns.py --turns "$turns" --seconds 60 /dev/null "${commands[@]:1}"
+}
+
+if [ $peers = yes ]; then
+  for cpus in 2 4 8 16; do beside $cpus; done
+  exit
+fi
 for cpus in 2 4 8; do
   rm -f "$work"/*.times; end=$((SECONDS + 40)); done=0
   while [ $done -lt "$turns" ] && [ $SECONDS -lt $end ]; do

@@ -17,3 +17,12 @@ measure() {
   echo "$1:"
   ./turns.py --turns "$3" --seconds "$4" "${@:5}" "$2" plain "${plain[@]}" -- ours "${mine[@]}"
 }
+# Keeps as many busy loops running beside what is measured as there are processors. They end with the script, however it ends.
+crowd() {
+  local count loops=()
+  for ((count = $(nproc); count > 0; count--)); do
+    while kill -0 $$ 2> /dev/null; do for ((round = 0; round < 20000; round++)); do :; done; done &
+    loops+=($!)
+  done
+  trap "kill ${loops[*]} 2> /dev/null; wait 2> /dev/null; rm -rf '$work'" EXIT
+}

@@ -3,24 +3,30 @@
 # writes the same text, with and without backoff (manners.rs). It alternates whole commands (turns.py). First through one buffer between two CPUs and
 # through four buffers on eight, also compared with messages.rs, with a Mutex and two Condvars for each buffer and no text.
 #
-#   bench/messages.sh [--patterns] [MESSAGES] [CAPACITY] [LOCK] [TURNS]
+#   bench/messages.sh [--patterns | --peers] [--busy] [MESSAGES] [CAPACITY] [LOCK] [TURNS]
 #
 # MESSAGES go through each buffer, at most 32,768 (default: 5,000); a buffer holds CAPACITY (default: 32). LOCK is the plan's key, `ticket` or `grant`
 # (default: grant). With --patterns it measures, on two processors and on one: a pair, a pair with one home CPU, a ping-pong of two buffers, a pipe of
 # three CPUs, two senders and two receivers on four CPUs at one buffer, and four pairs on eight CPUs and on four; a pair and four pairs through buffers of
 # one place too. It takes some minutes. Measure threads that wait for each other on a quiet machine, or with priority: chrt --rr 1 bench/messages.sh.
+# With --peers it measures, on all processors, a pair and four pairs through buffers of CAPACITY places and of one place, compared with what a program
+# would take instead: a Mutex with two Condvars, and the standard library's sync_channel. It takes four minutes at most. With --busy as many busy loops run
+# beside what is measured as there are processors (not with chrt, which they would inherit).
 # Build first: (cd crates/mctower && rt run -- count --cpus 1 --times 1).
 if [ "${1:-}" = --help ]; then sed -n '2,/^[^#]/ s/^# \{0,1\}//p' "$0"; exit; fi
 set -eu
 cd "$(dirname "$0")"
 . ./measure.sh
 patterns=no; [ "${1:-}" != --patterns ] || { patterns=yes; shift; }
+peers=no; [ "${1:-}" != --peers ] || { peers=yes; shift; }
+busy=no; [ "${1:-}" != --busy ] || { busy=yes; shift; }
 messages=${1:-5000}
 capacity=${2:-32}
 lock=${3:-grant}
 turns=${4:-51}
 rustc -O -o "$work/messages" messages.rs
 rustc -O -o "$work/plain_threads" plain_threads.rs
+[ $busy = no ] || crowd
 same=(timeout 60 "$work/plain_threads" "$lock")
 polite=("${same[@]}" manners)
 mine=(timeout 60 "$ours" threads --turns 1000000000)
@@ -55,6 +61,22 @@ beside() {
     -- 'the same with manners' "${polite[@]}" -- ours "${mine[@]}"
 }
 
+# Measures $1 pairs on two CPUs each, compared with what a program would take instead.
+instead() {
+  local others=("$1" "$capacity" "$messages")
+  pairs "$1" 2 > "$work/plan"
+  judge mine $(($1 * messages))
+  echo "$1 pairs, $(($1 * messages)) messages through buffers of $capacity places:"
+  ./turns.py --turns "$turns" --seconds 60 "$work/plan" 'a Mutex with two Condvars' timeout 60 "$work/messages" "${others[@]}" \
+    -- sync_channel timeout 60 "$work/messages" "${others[@]}" sync_channel -- ours "${mine[@]}"
+}
+
+if [ $peers = yes ]; then
+  for buffers in 1 4; do instead $buffers; done
+  capacity=1
+  for buffers in 1 4; do instead $buffers; done
+  exit
+fi
 if [ $patterns = no ]; then
   for buffers in 1 4; do
     pairs $buffers 2 > "$work/plan"

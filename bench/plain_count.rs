@@ -1,7 +1,7 @@
 //! Plain Rust locks over `AtomicU64`, to measure `mctower count` against: n threads, started
 //! together, each of which adds 1 to one number k times inside a lock, a ticket lock or one with a
-//! grant word for each waiter. A thread that waits looks as often as a worker of `count` before it
-//! lets others run.
+//! grant word for each waiter. A thread that waits polls as often as a worker of `count` before it
+//! yields, with a pause between two polls, so that its polls take about as long.
 //!
 //! plain_count CPUS TIMES ROUNDS [ticket|grant]
 
@@ -9,7 +9,7 @@ use std::cell::UnsafeCell;
 use std::sync::Barrier;
 use std::sync::atomic::{AtomicU64, Ordering::SeqCst};
 
-const LOOKS: u32 = 10_000;
+const POLLS: u32 = 10_000;
 const CPUS: usize = 16;
 
 #[repr(align(64))]
@@ -20,10 +20,11 @@ fn word(value: u64) -> Word {
 }
 
 fn wait_for(word: &Word, wanted: u64) {
-    let mut looks = LOOKS;
+    let mut polls = POLLS;
     while word.0.load(SeqCst) != wanted {
-        if looks > 0 {
-            looks -= 1;
+        if polls > 0 {
+            polls -= 1;
+            std::hint::spin_loop();
         } else {
             std::thread::yield_now();
         }
