@@ -1,7 +1,8 @@
 #!/usr/bin/env python3
 """Plants faults in the host, one at a time, and looks whether metal/test.py sees each.
 
-    metal/wrong_hosts.py                 the gate's: a wake that is lost, a record that two processors take, two stacks that are one
+    metal/wrong_hosts.py                 the gate's: a wake that is lost, a record that two processors take, two stacks that are one, all threads on one
+                                         processor
     metal/wrong_hosts.py --all           each edit of metal/wrong
     metal/wrong_hosts.py NAME..          these alone
 
@@ -24,7 +25,7 @@ import machine  # noqa: E402
 import test  # noqa: E402
 
 WRONG = build.METAL / "wrong"
-OF_GATE = ["a_record_is_taken_twice", "a_wake_is_lost", "two_stacks_are_one"]
+OF_GATE = ["a_record_is_taken_twice", "a_wake_is_lost", "all_threads_on_one_processor", "two_stacks_are_one"]
 CASES = 60  # of a kind, at most
 
 
@@ -66,7 +67,7 @@ def tried(edit, program):
         host = room / "host"
         shutil.copytree(build.HOST, host)
         kinds = planted(edit, host)
-        held = test.Held(room / "tower.elf", room / "trial.elf")
+        held = test.Held(room / "tower.elf", room / "trial.elf", host=host, program=program)
         build.linked(program, held.image, host)
         build.linked(build.METAL / "trial.c", held.trial, host)
         return first_difference(held, kinds)
@@ -77,7 +78,7 @@ def main():
     read.add_argument("--all", action="store_true")
     read.add_argument("names", nargs="*", metavar="NAME")
     asked = read.parse_args()
-    if not machine.is_there():
+    if not machine.PC.is_there():
         print("metal: no QEMU here: no fault was planted")
         return 77
     names = sorted(path.stem for path in WRONG.glob("*.edit")) if asked.all else asked.names or OF_GATE
