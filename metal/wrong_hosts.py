@@ -6,7 +6,7 @@
     metal/wrong_hosts.py --all           each edit of metal/wrong
     metal/wrong_hosts.py NAME..          these alone
 
-An edit of metal/wrong says in its line `seen:` which kinds of cases see it; behind a line `file:`, which names a file of metal/host, each line `old:` is
+An edit of metal/wrong says in its line `seen:` which kinds of cases see it, or which cases, as host/spread; behind a line `file:`, which names a file of metal/host, each line `old:` is
 replaced by the line `new:` beneath it. The first case that differs is told. A run that hangs differs too, after the seconds that METAL_SECONDS names, or
 20. Where there is no QEMU it says so, and its status is 77. The last line counts; the status is 1 if a fault was not seen.
 """
@@ -50,8 +50,9 @@ def planted(edit, host):
 
 def first_difference(held, kinds):
     """The first case of these kinds that differs, or nothing."""
-    for kind in kinds:
-        cases = test.part_of(list(test.KINDS[kind][0](held)), CASES)
+    for kind, _, name in (kind.partition("/") for kind in kinds):
+        named = [case for case in test.KINDS[kind][0](held) if case[0].startswith(name)]
+        cases = test.part_of(named, CASES)
         with ThreadPoolExecutor(2) as pool:
             for (name, _), fault in zip(cases, pool.map(lambda case: case[1](), cases)):
                 if fault:
