@@ -1,19 +1,23 @@
 #!/usr/bin/env python3
 """Holds the booted program against the native one, and judges what its processors do.
 
-    metal/test.py                   a part of each kind, in at most a minute of processor time: the gate's
-    metal/test.py --all             all of each kind: some five minutes of processor time
-    metal/test.py --only KIND..     these kinds alone: plans random damaged lines count threads rows small host disk
-                                    other lesson
+    metal/test.py                   the gate's: a part of each kind on a PC, and a small part on each other machine whose
+                                    QEMU is there and whose module is kept; at most two minutes
+    metal/test.py --all             all of each kind on a PC: ten minutes of processor time
+    metal/test.py --machine NAME    all that follows on this machine alone: x86_64, riscv64, aarch64
+    metal/test.py --only KIND..     these kinds alone: plans random damaged lines count threads rows small host slices
+                                    shell model disk other lesson
     metal/test.py --image IMAGE     another image, as of the object of the kit's other compiler; --trial IMAGE: another trial
 
 Status, standard output and standard error are the native program's, byte by byte: of every stored plan with both locks, of random plans, damaged plans,
 schedules and texts, of command lines. A run in threads has not one text: the native program's `check` judges it, and each CPU has a stop. Small machines
-refuse by name. `host` tries the host alone, with trial.c in the place of the program, `disk` boots by GRUB where there is grub-mkrescue, and `lesson` runs
-what docs/book/14-bare-processors.md shows. Where there is no QEMU it says so, and its status is 77.
+refuse by name. `host` tries the host alone, with trial.c in the place of the program; `slices` tries both with slices of 20 microseconds; `shell` types at
+the console; `model` looks at all interleavings of a record's hand-over; `disk` boots by GRUB where there is grub-mkrescue; `lesson` runs what
+docs/book/14-bare-processors.md shows. Where there is no QEMU it says so, and its status is 77.
 The last line counts; the status is 1 on any difference. It needs the built program, crates/mctower/out/mctower.
 """
 import argparse
+import atexit
 import math
 import random
 import re
@@ -21,13 +25,16 @@ import shutil
 import subprocess
 import sys
 import tempfile
+import threading
 import time
 from concurrent.futures import ThreadPoolExecutor
 from pathlib import Path
 
 sys.dont_write_bytecode = True
 import build  # noqa: E402
+import handover  # noqa: E402
 import machine  # noqa: E402
+import typing_at  # noqa: E402
 
 ROOT = build.ROOT
 sys.path.append(str(ROOT / "tests"))
@@ -45,13 +52,14 @@ LOCKS = ("ticket", "grant")
 
 
 class Held:
-    """What is compared, and with what."""
+    """What is compared, and with what: the images of a machine, and what they are linked of."""
 
-    def __init__(self, image, trial):
-        self.image, self.trial = image, trial
+    def __init__(self, image, trial, machine=machine.PC, host=build.HOST, program=None):
+        self.image, self.trial, self.machine, self.host, self.program = image, trial, machine, host, program
+        self.lock, self.sliced = threading.Lock(), {}
 
     def booted(self, words, plan=b"", processors=None, memory=256, cpu="max", by_turns=False):
-        return machine.booted(self.image, words, plan, processors, memory, cpu, by_turns)
+        return machine.booted(self.image, words, plan, processors, memory, cpu, by_turns, self.machine)
 
     def native(self, words, text):
         ran = subprocess.run([NATIVE, *words], input=text, capture_output=True, timeout=120, check=False)
@@ -60,6 +68,19 @@ class Held:
     def same(self, words, text):
         """The difference between the booted program and the native one, or nothing."""
         return unlike(self.booted(words, text), self.native(words, text))
+
+    def tried(self, word, processors=1, by_turns=False, memory=256, image=None):
+        return machine.booted(image or self.trial, [word], b"", processors, memory, by_turns=by_turns, machine=self.machine)
+
+    def in_slices(self, of):
+        """The image of this, the program or trial.c, with slices of 20 microseconds; it is made once."""
+        with self.lock:
+            if of not in self.sliced:
+                source = build.METAL / "trial.c" if of == "trial" else self.program
+                out = self.image.with_name(f"{of}-{self.machine.name}-slices{self.image.suffix}")
+                build.linked(source, out, self.host, self.machine, ["-DSLICE=20000"])
+                self.sliced[of] = out
+            return self.sliced[of]
 
 
 def unlike(came, wanted):
@@ -167,7 +188,7 @@ def threads(held):
             for processors in sorted({1, min(cpus_of(text), 2), cpus_of(text)}):
                 yield f"{path.name} {lock} on {processors}", lambda text=text, lock=lock, n=processors: judged(held, with_lock(text, lock), 400, n)
             yield f"{path.name} {lock} by turns", lambda text=text, lock=lock: judged(held, with_lock(text, lock), 400, None, True)
-    for seed in range(1, 201):
+    for seed in range(1, 301):
         def one(seed=seed):
             pick = random.Random(seed)
             plan = with_lock(random_plan.plan(pick, 3000, False).encode(), LOCKS[seed % 2])
@@ -231,45 +252,101 @@ def small(held):
     """Machines with too little memory, or too old a processor: each refuses by name, the program what it asks for, the host what it needs."""
     long_text = b"mctower-trace 1\n" + b"#" * (1 << 24)
     few, many = ["count", "--cpus", "2", "--times", "9"], ["count", "--cpus", "16", "--times", "9"]
+    full_traces = ["run", "--schedule", ALL_SEND], with_full_traces()
     table = [
-        ("no stack", ["--version"], b"", 1, 20, (119, b"", b"host: too little memory\n")),
-        ("a plan that is too large", ["check"], long_text, 1, 16, (119, b"", b"host: the plan is larger than the memory\n")),
-        ("no stack beside the plan", ["check"], long_text, 1, 36, (119, b"", b"host: too little memory\n")),
-        ("enough for two threads", few, b"", 2, 64, (0, b"plain 18\ntable 18\n", b"")),
-        ("too little for sixteen threads", many, b"", 1, 64, (1, b"", b"error: NoThread(5)\n")),
-        ("no room to read a text", ["check"], long_text[:10 << 20], 1, 44, (1, b"", b"error: NoMemory(1)\n")),
-        ("no room for traces", ["run", "--schedule", ALL_SEND], with_full_traces(), 1, 64, (1, b"", b"error: NoMemory(1)\n")),
+        ("enough for sixteen threads", many, b"", 1, 32, (0, b"plain 144\ntable 144\n", b"")),
+        ("enough for two threads", few, b"", 2, 16, (0, b"plain 18\ntable 18\n", b"")),
+        ("no room for traces", *full_traces, 1, 64, (1, b"", b"error: NoMemory(1)\n")),
         ("long words", ["run", "--schedule", "0," * 70000], b"", 1, 64, (118, b"", b"metal: the words are longer than QEMU takes\n")),
     ]
-    for name, words, plan, processors, memory, wanted in table:
+    of_pc = [
+        ("no stack", ["--version"], b"", 1, 4, (119, b"", b"host: too little memory\n")),
+        ("a plan that is too large", ["check"], long_text, 1, 16, (119, b"", b"host: the plan is larger than the memory\n")),
+        ("no stack beside the plan", ["check"], long_text, 1, 20, (119, b"", b"host: too little memory\n")),
+        ("too little for sixteen threads", many, b"", 1, 16, (1, b"", b"error: NoThread(5)\n")),
+        ("no room to read a text", ["check"], long_text[:10 << 20], 1, 24, (1, b"", b"error: NoMemory(1)\n")),
+    ]
+    for name, words, plan, processors, memory, wanted in table + (of_pc if held.machine is machine.PC else []):
         yield name, lambda it=(words, plan, processors, memory), wanted=wanted: unlike(held.booted(*it), wanted)
+    if held.machine is not machine.PC:
+        return
     yield "a processor that lacks a feature", lambda: lacking(held)
+    yield "more processors than are driven", lambda: unlike(held.booted(many, b"", 100, by_turns=True), (0, b"plain 144\ntable 144\n", b""))
+    for cpu, wanted in OLD_PROCESSORS:
+        yield f"-cpu {cpu}", lambda cpu=cpu, wanted=wanted: of_old(held.booted(["--version"], cpu=cpu), wanted)
 
 
+OLD_PROCESSORS = [("qemu32", b"host: a processor without long mode"), ("max,-nx", b"host: a processor without long mode, or without pages"),
+                  ("max,-apic", b"host: there is no timer\n")]
+
+
+def of_old(came, wanted):
+    status, out, err = came
+    return None if status == 121 and (out + err).startswith(wanted) else f"{came}"
+
+
+FULL, FAULT = b"host: a full stack, number ", b"host: a page fault, number "
 TRIALS = [
-    ("deep", 1, 7, b""), ("full", 1, 125, b"host: a full stack, number 14"), ("bad", 1, 125, b"host: an instruction that is none, number 6"),
-    ("zero", 1, 125, b"host: a division by 0, number 0"), ("place", 1, 125, b"host: a page fault, number 14"), ("memory", 1, 1, b""),
-    ("instruction", 1, 7, b""),
-    ("wait", 1, 122, b"host: every thread waits\n"), ("absent", 2, 121, b"host: processors that came: 2 of 3\n"),
-    *(("rounds", processors, 7, b"") for processors in (1, 2, 3, 4, 8)),
+    ("deep", 1, 7, b""), ("full", 1, 125, FULL), ("bad", 1, 125, b"host: an instruction that is none, number "), ("far", 1, 125, FAULT),
+    ("at-0", 1, 125, FAULT), ("calls-0", 1, 125, FAULT), ("constant", 1, 125, FAULT), ("code", 1, 125, FAULT), ("data", 1, 125, FAULT),
+    ("memory", 1, 7, b""), ("joins", 1, 7, b""), ("instruction", 1, 7, b""), ("answers", 1, 7, b""), ("errors", 4, 7, b""), ("detached", 2, 7, b""),
+    ("wait", 1, 122, b"host: every thread waits\n"), *(("all-wait", processors, 122, b"host: every thread waits\n") for processors in (1, 2, 8)),
+    ("absent", 2, 121, b"host: processors that came: 2 of 3\n"), *(("rounds", processors, 7, b"") for processors in (1, 2, 3, 4, 8)),
+    ("hand-over", 4, 7, b""), *((f"spread{processors}", processors, 7, b"") for processors in (1, 3, 8)), ("full-elsewhere", 2, 125, FULL),
+    ("together", 4, 125, b"host: an instruction that is none, number "), ("slices", 1, 7, b""), ("slices", 2, 7, b""), ("registers", 2, 7, b""),
 ]
+OF_PC = [("zero", 1, 125, b"host: a division by 0, number 0")]
+
+
+def told_whole(err, says):
+    """Whether standard error is one line that begins so and, of an exception, that ends with an address."""
+    return err.startswith(says) and (not says or err.count(b"\n") == 1 and (b"number" not in says or re.search(rb", address 0x[0-9a-f]+\n$", err)))
 
 
 def host(held):
     """The host alone, with trial.c in the place of the program."""
-    for word, processors, wanted, says in TRIALS:
+    for word, processors, wanted, says in TRIALS + (OF_PC if held.machine is machine.PC else []):
         def one(by_turns, word=word, processors=processors, wanted=wanted, says=says):
-            status, out, err = machine.booted(held.trial, [word], b"", processors, by_turns=by_turns)
-            return None if (status, out) == (wanted, b"") and err.startswith(says) else f"{status} {out} {err}"
+            status, out, err = held.tried(word, processors, by_turns)
+            return None if (status, out) == (wanted, b"") and told_whole(err, says) else f"{status} {out} {err}"
         yield f"{word} on {processors}", lambda one=one: one(False)
         if processors == 8:
             yield f"{word} on {processors} by turns", lambda one=one: one(True)
 
 
+def slices(held):
+    """A slice of 20 microseconds ends at any instruction: the trials and the program give what they give with slices of milliseconds."""
+    for word, processors in [("slices", 1), ("registers", 1), ("registers", 4), ("rounds", 1), ("rounds", 4), ("hand-over", 4), ("instruction", 1)]:
+        def one(word=word, processors=processors):
+            came = held.tried(word, processors, image=held.in_slices("trial"))
+            return unlike(came, (7, b"", b""))
+        yield f"{word} on {processors}", one
+    for number in range(16):
+        def one(number=number):
+            sliced = Held(held.in_slices("tower"), held.trial, held.machine)
+            kinds = (rows, threads, count, plans)
+            cases = list(kinds[number % 4](sliced))
+            cases = [case for case in cases if "by turns" not in case[0]]
+            return part_of(cases, 4)[number // 4][1]()
+        yield f"of the program, {number}", one
+
+
+def model(held):
+    """All interleavings of the hand-over of a thread's record: as the host does it none is bad, and without the second look one is."""
+    del held
+    yield "as it is", lambda: unlike(handover.has_bad_end(True), False)
+    yield "with one look", lambda: unlike(handover.has_bad_end(False), True)
+
+
+def shell(held):
+    """What is typed at the console, on the serial line and on a PC's keyboard, and what is answered."""
+    return typing_at.cases(held)
+
+
 def by_grub(held, room, words, plan, firmware):
     """Boots a disk by GRUB and returns a status and what came on both serial lines."""
     build.disk(held.image, room / "tower.iso", plan, *words)
-    return machine.ran([*machine.processors_of(4, False, "max"), "-m", "256", *firmware, "-cdrom", "tower.iso"], room)
+    return machine.ran([*machine.PC.processors(4, False, "max"), "-m", "256", *firmware, "-cdrom", "tower.iso"], room)
 
 
 def disk(held):
@@ -289,6 +366,16 @@ def disk(held):
         yield f"{words} by GRUB and BIOS", lambda words=words, path=path: one(words, path, [])
     if UEFI.exists():
         yield "threads by GRUB and UEFI", lambda: one(*table[0], ["-bios", UEFI])
+    for name, reads, firmware in [("BIOS", typing_at.letters, []), ("UEFI", typing_at.dots, ["-bios", UEFI])]:
+        if not firmware or UEFI.exists():
+            yield f"the shell by GRUB and {name}, a keyboard and no serial line", lambda it=(reads, firmware): shell_of_disk(held, *it)
+
+
+def shell_of_disk(held, reads, firmware):
+    """The shell of a disk, with a keyboard and a screen alone."""
+    with tempfile.TemporaryDirectory() as room:
+        build.disk(held.image, Path(room, "tower.iso"))
+        return typing_at.at_keyboard(held, [*map(str, firmware), "-cdrom", f"{room}/tower.iso"], reads)
 
 
 def other(held):
@@ -316,9 +403,13 @@ def lesson(held):
             yield command, lambda command=command, wanted=wanted: one(command, wanted)
 
 
-# By kind, its cases, and of how many of them the gate's part is.
-KINDS = {"plans": (plans, 18), "random": (random_runs, 20), "damaged": (damaged_runs, 16), "lines": (lines, 40), "count": (count, 16), "threads": (threads, 20),
-         "rows": (rows, 12), "small": (small, 9), "host": (host, 15), "disk": (disk, 0), "other": (other, 12), "lesson": (lesson, 9)}
+# By kind, its cases, and of how many of them the gate's part is on a PC, and on another machine.
+KINDS = {
+    "plans": (plans, 18, 4), "random": (random_runs, 20, 4), "damaged": (damaged_runs, 16, 0), "lines": (lines, 40, 4), "count": (count, 16, 2),
+    "threads": (threads, 20, 3), "rows": (rows, 12, 2), "small": (small, 12, 1), "host": (host, 40, 8), "slices": (slices, 6, 1), "shell": (shell, 4, 1),
+    "model": (model, 2, 0), "disk": (disk, 0, 0), "other": (other, 12, 0), "lesson": (lesson, 9, 0),
+}
+OF_PC_ALONE = {"disk", "other", "lesson"}
 
 
 def part_of(cases, count):
@@ -339,30 +430,57 @@ def tried(name, cases, jobs):
     return told
 
 
+def tried_on(held, kinds, is_all, is_small, jobs):
+    """Tries these kinds on a machine; returns how many cases passed and how many failed."""
+    passed = failed = 0
+    for name in kinds:
+        make, part, small_part = KINDS[name]
+        if held.machine is not machine.PC and name in OF_PC_ALONE:
+            continue
+        cases = list(make(held))
+        cases = cases if is_all else part_of(cases, small_part if is_small else part)
+        faults = tried(f"{held.machine.name}, {name}", cases, jobs) if cases else []
+        passed, failed = passed + len(cases) - len(faults), failed + len(faults)
+    return passed, failed
+
+
+def held_on(it, image, trial):
+    """The images of a machine, made if none are given."""
+    room = tempfile.mkdtemp()
+    atexit.register(shutil.rmtree, room, ignore_errors=True)
+    program = None if image else build.program_of(None, Path(room), it)
+    if not image:
+        build.linked(program, build.image_of(it), machine=it)
+    if not trial:
+        build.trial(build.trial_of(it), it)
+    return Held(image or build.image_of(it), trial or build.trial_of(it), it, program=program)
+
+
 def main():
     read = argparse.ArgumentParser(description=__doc__, formatter_class=argparse.RawDescriptionHelpFormatter)
     read.add_argument("--all", action="store_true")
+    read.add_argument("--machine", choices=machine.MACHINES)
     read.add_argument("--only", nargs="+", choices=KINDS, default=list(KINDS), metavar="KIND")
     read.add_argument("--jobs", type=int, default=2, metavar="N")
     read.add_argument("--image", type=Path)
     read.add_argument("--trial", type=Path)
     asked = read.parse_args()
-    if not machine.is_there():
-        print("metal: no QEMU here: nothing was booted")
+    named = machine.MACHINES[asked.machine or machine.PC.name]
+    others = [] if asked.machine or asked.all or asked.image else [it for it in machine.MACHINES.values() if it is not named]
+    if not named.is_there():
+        print(f"metal: no QEMU here, {named.qemu}: nothing was booted")
         return 77
     if not NATIVE.exists():
         sys.exit(f"metal: there is no {NATIVE.relative_to(ROOT)}: tools/prove-all.py builds it")
-    if not asked.image:
-        build.tower(None, build.IMAGE)
-    if not asked.trial:
-        build.linked(build.METAL / "trial.c", build.TRIAL)
-    held, passed, failed = Held(asked.image or build.IMAGE, asked.trial or build.TRIAL), 0, 0
-    for name in asked.only:
-        make, part = KINDS[name]
-        cases = list(make(held))
-        cases = cases if asked.all else part_of(cases, part)
-        faults = tried(name, cases, asked.jobs)
-        passed, failed = passed + len(cases) - len(faults), failed + len(faults)
+    passed, failed = tried_on(held_on(named, asked.image, asked.trial), asked.only, asked.all, False, asked.jobs)
+    for it in others:
+        if not it.is_there():
+            print(f"metal: {it.name} is left out: no QEMU here, {it.qemu}")
+        elif not build.has_module():
+            print(f"metal: {it.name} is left out: the program's module is not kept; metal/build.py --machine {it.name} makes it")
+        else:
+            more = tried_on(held_on(it, None, None), asked.only, False, True, asked.jobs)
+            passed, failed = passed + more[0], failed + more[1]
     print(f"metal: {passed} passed, {failed} failed")
     return 0 if passed and not failed else 1
 

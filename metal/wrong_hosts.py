@@ -1,11 +1,12 @@
 #!/usr/bin/env python3
 """Plants faults in the host, one at a time, and looks whether metal/test.py sees each.
 
-    metal/wrong_hosts.py                 the gate's: a wake that is lost, a record that two processors take, two stacks that are one
+    metal/wrong_hosts.py                 the gate's: a wake that is lost, a record that two processors take, two stacks that are one, all threads on one
+                                         processor
     metal/wrong_hosts.py --all           each edit of metal/wrong
     metal/wrong_hosts.py NAME..          these alone
 
-An edit of metal/wrong says in its line `seen:` which kinds of cases see it; behind a line `file:`, which names a file of metal/host, each line `old:` is
+An edit of metal/wrong says in its line `seen:` which kinds of cases see it, or which cases, as host/spread; behind a line `file:`, which names a file of metal/host, each line `old:` is
 replaced by the line `new:` beneath it. The first case that differs is told. A run that hangs differs too, after the seconds that METAL_SECONDS names, or
 20. Where there is no QEMU it says so, and its status is 77. The last line counts; the status is 1 if a fault was not seen.
 """
@@ -24,7 +25,7 @@ import machine  # noqa: E402
 import test  # noqa: E402
 
 WRONG = build.METAL / "wrong"
-OF_GATE = ["a_record_is_taken_twice", "a_wake_is_lost", "two_stacks_are_one"]
+OF_GATE = ["a_record_is_taken_twice", "a_wake_is_lost", "all_threads_on_one_processor", "two_stacks_are_one"]
 CASES = 60  # of a kind, at most
 
 
@@ -49,8 +50,9 @@ def planted(edit, host):
 
 def first_difference(held, kinds):
     """The first case of these kinds that differs, or nothing."""
-    for kind in kinds:
-        cases = test.part_of(list(test.KINDS[kind][0](held)), CASES)
+    for kind, _, name in (kind.partition("/") for kind in kinds):
+        named = [case for case in test.KINDS[kind][0](held) if case[0].startswith(name)]
+        cases = test.part_of(named, CASES)
         with ThreadPoolExecutor(2) as pool:
             for (name, _), fault in zip(cases, pool.map(lambda case: case[1](), cases)):
                 if fault:
@@ -66,7 +68,7 @@ def tried(edit, program):
         host = room / "host"
         shutil.copytree(build.HOST, host)
         kinds = planted(edit, host)
-        held = test.Held(room / "tower.elf", room / "trial.elf")
+        held = test.Held(room / "tower.elf", room / "trial.elf", host=host, program=program)
         build.linked(program, held.image, host)
         build.linked(build.METAL / "trial.c", held.trial, host)
         return first_difference(held, kinds)
@@ -77,7 +79,7 @@ def main():
     read.add_argument("--all", action="store_true")
     read.add_argument("names", nargs="*", metavar="NAME")
     asked = read.parse_args()
-    if not machine.is_there():
+    if not machine.PC.is_there():
         print("metal: no QEMU here: no fault was planted")
         return 77
     names = sorted(path.stem for path in WRONG.glob("*.edit")) if asked.all else asked.names or OF_GATE

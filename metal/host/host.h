@@ -1,10 +1,11 @@
 /* What the files of the host share. The host stands beneath the proved program in the place of an operating system and a C library: one run, from
    the boot to the halt. Nothing proves it. Each function that the program calls keeps what the kit's libc/src and os/src say of the C function of its
-   name, which the proofs take as given. Interrupts are on in a halt alone, so nothing takes a processor from what runs on it. */
+   name, which the proofs take as given. An argument that is C's int has type long here and is cut, since the program leaves its upper half open.
+   Interrupts are on in threads, but for the host's functions where these hold a lock or change stacks; in a processor's own loop they are on in a halt. */
 typedef unsigned long size;
 typedef unsigned char byte;
 
-enum { PAGE = 4096, LARGE_PAGE = 1 << 21, STACK_BYTES = 8 << 20, MOST_PROCESSORS = 64, MOST_THREADS = 64 };
+enum { PAGE = 4096, LARGE_PAGE = 1 << 21, STACK_BYTES = 1 << 20, GUARD_BYTES = 1 << 16, MOST_PROCESSORS = 64, MOST_THREADS = 64 };
 enum { WRONG_FILE = 9, TRY_AGAIN = 11, INVALID = 22, NO_SEEK = 29, NO_CALL = 38 }; /* error numbers of C */
 
 /* How a run ends that the program does not end: statuses that it has not. */
@@ -22,53 +23,65 @@ struct thread {
   byte *stack_end, *guard;
 };
 
+/* What a page may be used for. */
+enum kind { NO_PAGE, CODE, CONSTANT, DATA };
+
+#include "machine.h" /* of the processor's own: its instructions, its tables, its page entries */
+
 /* A processor: what it runs, its tables, and two small stacks, of its own loop and of exceptions. */
-enum { PROCESSOR_BYTES = 8192 }; /* as start.S has it */
 struct __attribute__((aligned(PAGE))) processor {
-  byte *stack_end; /* of its own loop; start.S reads it */
+  byte *stack_end, *trap_stack_end; /* start.S reads these, and has room for a register behind them */
   struct processor *self;
-  struct thread *runs;
-  size stack; /* where the registers of its loop lie while it runs a thread */
-  unsigned apic, threads;
-  int is_up;
-  size gdt[6];
-  unsigned tss[26];
+  size kept;
+  struct thread *runs; /* or 0 in its own loop */
+  size stack;          /* where the registers of its loop lie while it runs a thread */
+  unsigned number, threads, locks; /* the machine's name for it; threads that it has; locks of the host that what runs here holds */
+  int is_up, is_timed, is_ticked;  /* whether it has begun; its timer will end a slice; a slice ended, and its thread did not yield */
+  struct tables tables;
   byte loop_stack[3072] __attribute__((aligned(16))), trap_stack[3072] __attribute__((aligned(16)));
 };
 
 /* start.S and link.ld */
-extern byte image_start[], image_end[], exceptions[], ends_halt[], system_call[], others_start[], others_end[];
-extern const size first_gdt[4];
-extern size directories[4 * 512]; /* a page of 2 MiB each */
+extern byte image_start[], text_end[], constants_end[], image_end[];
 void change_stacks(size *kept, const size *next);
 
 /* memory.c */
-void *memcpy(void *to, const void *from, size bytes), lock(int *it), unlock(int *it), forget_page(const byte *at);
-int has_heap(size start, size end), has_stack(struct thread *it), is_guard(size address), begins_with(const char *text, const char *wanted);
+struct region { size start, end; };
+struct tried { size ok; byte *p; }; /* whether there is room, and where */
+extern struct region input; /* of standard input, what is still to be read */
+extern size directories[4 * 512];
+void *memcpy(void *to, const void *from, size bytes), *memmove(void *to, const void *from, size bytes);
+int begins_with(const char *text, const char *wanted), is_same(const char *text, const char *wanted), has_stack(struct thread *it);
+void lock(int *it), unlock(int *it), has_memory(size start, size end), uses(size start, size end), has_input(size start, size end);
+void set_pages(void), set_memory(void), begin_heap(void);
 
-/* streams.c */
-void set_lines(void), say(const char *text), say_number(size number, unsigned base), has_words(const char *text);
-_Noreturn void ends(const char *why, enum status status), _exit(int status);
-
-/* processors.c */
-extern struct processor processors[MOST_PROCESSORS];
-extern byte apics[MOST_PROCESSORS];
-extern unsigned processor_count;
-struct processor *me(void);
-void set_records(void), set_tables(struct processor *it), begin_others(void), end_halts(void), halt(void), halt_a_moment(void);
-int is_alone(void);
+/* streams.c: a serial line is a register for bytes, and one of two bits: it takes a byte, it has one; `flip` are bits that say so by 0 */
+struct line { size at; byte status, flip, takes, has; };
+extern struct line lines[3]; /* by the descriptor: what is typed, standard output, standard error */
+extern int is_listening, is_shell;
+struct line line_16550(size at);
+void say(const char *text), say_number(size number, unsigned base), has_words(const char *text), set_words(const char *text), take_typed(void);
+void begin_typed(int is_echoed), take_first_word(void);
+long read(long fd, byte *buffer, size room), write(long fd, const byte *bytes, size count);
+_Noreturn void ends(const char *why, enum status status), _exit(long status);
+_Noreturn void tell_trap(const char *what, size number, size error, size at, size stack, size address);
 
 /* threads.c */
-void has_program(void);
-_Noreturn void work(struct processor *own);
+extern struct processor processors[MOST_PROCESSORS];
+extern unsigned processor_count, numbers[MOST_PROCESSORS]; /* the machine's name for each that there is, the first one's first */
+extern int is_lent; /* whether the processor that is waited for may have to wait for this one's */
+int is_alone(void), is_guard(size address), wake_all(void), pthread_create(size *thread, const size *attributes, void *(*start)(void *), void *value);
+int pthread_join(size thread, void **value), wait(size had_come);
+size wakes_so_far(void);
+void has_program(void), has_processor(unsigned number), interrupted(int is_tick), end_command(void);
+_Noreturn void work(struct processor *own), other_processor(struct processor *it);
 long fails(int error);
 
-/* ---- the processor's own instructions */
+/* shell.c */
+_Noreturn void shell(void);
+void leave_command(int status);
 
-static inline void out(unsigned short port, byte value) { __asm__ volatile("outb %0, %1" : : "a"(value), "Nd"(port)); }
-static inline byte in(unsigned short port) {
-  byte value;
-  __asm__ volatile("inb %1, %0" : "=a"(value) : "Nd"(port));
-  return value;
-}
-static inline void pause(void) { __asm__ volatile("pause" : : : "memory"); }
+/* the machine's own */
+void set_tables(struct processor *it), forget_pages(void), forget_page(const byte *at);
+void end_halts(void), halt(void), set_timer(size nanoseconds), call_others(int is_first), microsecond(void), listen(void);
+void power_off(int status); /* returns where nothing ends the machine */

@@ -1,4 +1,4 @@
-/* Bytes, the heap, and the stacks of threads. */
+/* Bytes, memory, pages, the heap, and the stacks of threads. */
 #include "host.h"
 
 void *memcpy(void *restrict to, const void *restrict from, size bytes) {
@@ -12,7 +12,7 @@ void *memmove(void *to, const void *from, size bytes) {
     while (bytes--) ((byte *)to)[bytes] = ((const byte *)from)[bytes];
   return to;
 }
-void *memset(void *to, int value, size bytes) {
+void *memset(void *to, long value, size bytes) {
   for (size at = 0; at < bytes; at++) ((byte *)to)[at] = value;
   return to;
 }
@@ -21,67 +21,158 @@ int begins_with(const char *text, const char *wanted) {
   while (*wanted && *wanted == *text) wanted++, text++;
   return !*wanted;
 }
+int is_same(const char *text, const char *wanted) {
+  while (*wanted && *wanted == *text) wanted++, text++;
+  return *wanted == *text;
+}
 
-/* A lock of the host's own. Nobody who holds one waits or yields, and no interrupt comes, so its owner always runs. */
+/* A lock of the host's own. Nobody who holds one waits or yields, and no interrupt comes, so its owner always runs. Interrupts come again with the last that
+   a thread gives back; in a processor's own loop they stay off. */
 void lock(int *it) {
+  interrupts_off();
+  me()->locks++;
   while (__atomic_exchange_n(it, 1, __ATOMIC_ACQUIRE)) pause();
 }
-void unlock(int *it) { __atomic_store_n(it, 0, __ATOMIC_RELEASE); }
+void unlock(int *it) {
+  __atomic_store_n(it, 0, __ATOMIC_RELEASE);
+  if (--me()->locks == 0 && me()->runs) interrupts_on();
+}
 
-/* The heap grows up from its start, and stacks are laid down from its end. A block's first 16 bytes hold how many it has. These are of a class, four
-   to each doubling; a freed block goes to the list of its class. */
-enum { CLASSES = 4 * 40, LEAST_BLOCK = 32, HEAD = 16 };
-static byte *heap_at, *heap_end, *freed[CLASSES];
+/* ---- memory, as loaders and the firmware tell of it */
+
+enum { MOST_REGIONS = 128 };
+static struct region memory[MOST_REGIONS], used[MOST_REGIONS] = {{0, MEMORY_START}, {(size)image_start, (size)image_end}};
+static unsigned memory_count, used_count = 2;
+struct region input;
+
+/* Memory that may be used. What is above the top is of devices, or has no page. */
+void has_memory(size start, size end) {
+  if (start < MEMORY_TOP && memory_count < MOST_REGIONS) memory[memory_count++] = (struct region){start, end < MEMORY_TOP ? end : MEMORY_TOP};
+}
+void uses(size start, size end) {
+  if (used_count < MOST_REGIONS) used[used_count++] = (struct region){start, end};
+}
+void has_input(size start, size end) {
+  input = (struct region){start, end};
+  uses(start, end);
+}
+
+/* How far memory goes on from an address with nobody using it, up to an end. */
+static size free_end(size start, size end) {
+  for (unsigned i = 0; i < used_count; i++) {
+    if (used[i].start <= start && start < used[i].end) return start;
+    if (start < used[i].start && used[i].start < end) end = used[i].start;
+  }
+  return end;
+}
+
+/* The largest region of memory that nobody uses: it begins where a region does, or behind what is used. */
+static struct region largest(void) {
+  struct region best = {0, 0};
+  for (unsigned i = 0; i < memory_count * (used_count + 1); i++) {
+    struct region it = memory[i % memory_count];
+    unsigned behind = i / memory_count;
+    size start = behind < used_count ? used[behind].end : it.start;
+    if (start < it.start || start >= it.end) continue;
+    size end = free_end(start, it.end);
+    if (end - start > best.end - best.start) best = (struct region){start, end};
+  }
+  return best;
+}
+
+/* ---- pages: each address is at itself. There are 4 GiB, in pages of 2 MiB, some of them cut into pages of 4 KiB before any other processor begins */
+
+enum { STACKS = MOST_THREADS * STACK_BYTES / LARGE_PAGE, MOST_CUT = STACKS + 8 };
+size directories[4 * 512] __attribute__((aligned(PAGE)));
+static size *cut[4 * 512];
+
+/* There is no page at 0; code and constants are not written; nothing but code is run. */
+static enum kind kind_of(size at) {
+  if (at < (size)image_start || at >= (size)constants_end) return at < PAGE ? NO_PAGE : DATA;
+  return at < (size)text_end ? CODE : CONSTANT;
+}
+
+static void cut_page(size large) {
+  static size tables[MOST_CUT][512] __attribute__((aligned(PAGE)));
+  static unsigned count;
+  if (cut[large]) return;
+  if (count == MOST_CUT) ends("host: the image is too large", NO_ROOM);
+  cut[large] = tables[count++];
+  for (size i = 0; i < 512; i++) cut[large][i] = page_entry(large * LARGE_PAGE + i * PAGE, kind_of(large * LARGE_PAGE + i * PAGE));
+  directories[large] = table_entry((size)cut[large]);
+}
+
+void set_pages(void) {
+  cut_page(0);
+  for (size i = 0; i < 4 * 512; i++)
+    if ((size)image_start < (i + 1) * LARGE_PAGE && i * LARGE_PAGE < (size)image_end)
+      cut_page(i);
+    else if (!cut[i])
+      directories[i] = large_entry(i * LARGE_PAGE);
+}
+
+/* ---- the heap: free blocks are in a list, by address. Stacks are laid down from its end */
+
+struct block { size bytes; struct block *next; }; /* a block begins with its bytes; `next` is of a free one */
+enum { HEAD = 16, LEAST_BLOCK = 32 };
+static struct block *free_blocks;
+static size heap_start, heap_end;
 static int heap_lock;
 
-int has_heap(size start, size end) {
-  heap_at = (byte *)((start + HEAD - 1) & ~(size)(HEAD - 1));
-  heap_end = (byte *)(end & ~(size)(LARGE_PAGE - 1));
-  return heap_at < heap_end;
+static size end_of(const struct block *it) { return (size)it + it->bytes; }
+
+/* All that is no stack is free. */
+void begin_heap(void) {
+  free_blocks = (struct block *)heap_start;
+  *free_blocks = (struct block){heap_end - heap_start, 0};
 }
 
-/* The least class with so many bytes, and the bytes of a class. */
-static unsigned class_of(size bytes) {
-  unsigned doublings = 63 - __builtin_clzl(bytes);
-  size quarter = (size)1 << (doublings - 2), over = (bytes - ((size)1 << doublings) + quarter - 1) / quarter;
-  return (doublings - 5) * 4 + over;
-}
-static size bytes_of(unsigned class) { return (size)(4 + class % 4) << (class / 4 + 3); }
-
-/* A block of this class that was never given, or a freed one of this class or a larger one, or 0. */
-static byte *block_of(unsigned class) {
-  if (!freed[class] && (size)(heap_end - heap_at) >= bytes_of(class)) {
-    byte *block = heap_at;
-    heap_at += bytes_of(class);
-    *(size *)block = bytes_of(class);
-    return block;
-  }
-  while (class < CLASSES && !freed[class]) class ++;
-  byte *block = class < CLASSES ? freed[class] : 0;
-  if (block) freed[class] = *(byte **)(block + HEAD);
-  return block;
+/* Looks at what the loader left, and takes the largest region for the heap. A loader need not look whether what it loads fits. */
+void set_memory(void) {
+  size top = 0;
+  for (unsigned i = 0; i < memory_count; i++) top = memory[i].end > top ? memory[i].end : top;
+  if (input.end > top) ends("host: the plan is larger than the memory", NO_ROOM);
+  struct region heap = largest();
+  heap_start = (heap.start + HEAD - 1) & ~(size)(HEAD - 1);
+  heap_end = heap.end & ~(size)(PAGE - 1);
+  if (heap_start + 2 * STACK_BYTES > heap_end) ends("host: too little memory", NO_ROOM);
+  for (size i = 0, large = (heap_end - 1) / LARGE_PAGE; i <= STACKS && (large - i + 1) * LARGE_PAGE > heap_start; i++) cut_page(large - i);
+  forget_pages();
+  begin_heap();
 }
 
-/* Room for some bytes that nobody else has, or 0. */
+/* Room for some bytes that nobody else has, or 0: of the first free block that is large enough. */
 static byte *take(size bytes) {
   if (bytes > (size)1 << 32) return 0;
+  size whole = bytes + HEAD < LEAST_BLOCK ? LEAST_BLOCK : (bytes + HEAD + HEAD - 1) & ~(size)(HEAD - 1);
+  struct block **at = &free_blocks, *it;
   lock(&heap_lock);
-  byte *block = block_of(class_of(bytes + HEAD < LEAST_BLOCK ? LEAST_BLOCK : bytes + HEAD));
+  while (*at && (*at)->bytes < whole) at = &(*at)->next;
+  it = *at;
+  if (it && it->bytes - whole >= LEAST_BLOCK) {
+    *at = (struct block *)((size)it + whole);
+    **at = (struct block){it->bytes - whole, it->next};
+    it->bytes = whole;
+  } else if (it)
+    *at = it->next;
   unlock(&heap_lock);
-  return block ? block + HEAD : 0;
+  return it ? (byte *)it + HEAD : 0;
 }
 
 static size room_of(const byte *p) { return *(const size *)(p - HEAD) - HEAD; }
 
+/* Puts a block back into the list, and joins it with the free ones about it. */
 void rattle_dealloc(byte *p) {
-  unsigned class = class_of(room_of(p) + HEAD);
+  struct block *it = (struct block *)(p - HEAD), *before = 0, **at = &free_blocks;
   lock(&heap_lock);
-  *(byte **)p = freed[class];
-  freed[class] = p - HEAD;
+  for (; *at && *at < it; at = &before->next) before = *at;
+  it->next = *at;
+  *at = it;
+  if (it->next && (size)it->next == end_of(it)) *it = (struct block){it->bytes + it->next->bytes, it->next->next};
+  if (before && (size)it == end_of(before)) *before = (struct block){before->bytes + it->bytes, it->next};
   unlock(&heap_lock);
 }
 
-struct tried { size ok; byte *p; }; /* whether there is room, and where */
 struct tried rattle_alloc(size bytes, size align) {
   static byte nowhere; /* what a refusal points at, since it may not be 0 */
   byte *p = align > HEAD ? 0 : take(bytes);
@@ -100,23 +191,19 @@ void free(void *p) {
   if (p) rattle_dealloc(p);
 }
 
-/* ---- stacks */
-
-void forget_page(const byte *at) { __asm__ volatile("invlpg (%0)" : : "r"(at) : "memory"); }
-
-/* Gives a thread a stack, and beneath it 2 MiB that are not there: a full stack is a page fault. Returns whether as much memory is left for the heap.
+/* Gives a thread a stack of 1 MiB, the least 64 KiB of which are not there: a full stack is a page fault. Returns whether as much memory is left for the heap.
    A thread that ended keeps its stack for the next that gets its record. */
 int has_stack(struct thread *it) {
-  enum { WHOLE = STACK_BYTES + LARGE_PAGE };
   lock(&heap_lock);
-  if (!it->stack_end && (size)(heap_end - heap_at) >= 2 * WHOLE) {
-    it->stack_end = heap_end;
-    heap_end -= WHOLE;
-    it->guard = heap_end;
-    directories[(size)heap_end / LARGE_PAGE] = 0;
+  struct block *last = free_blocks;
+  while (last && last->next) last = last->next;
+  if (!it->stack_end && last && end_of(last) == heap_end && last->bytes >= 2 * STACK_BYTES) {
+    it->stack_end = (byte *)heap_end;
+    last->bytes -= STACK_BYTES;
+    heap_end -= STACK_BYTES;
+    it->guard = (byte *)heap_end;
+    for (size at = heap_end; at < heap_end + GUARD_BYTES; at += PAGE) cut[at / LARGE_PAGE][at / PAGE % 512] = page_entry(at, NO_PAGE);
   }
   unlock(&heap_lock);
   return it->stack_end != 0;
 }
-
-int is_guard(size address) { return address / LARGE_PAGE < sizeof directories / sizeof *directories && !directories[address / LARGE_PAGE]; }

@@ -1,4 +1,4 @@
-/* The words of the command line, the serial lines that are standard output and error, exceptions, and the end of a run. */
+/* The words of the command line, the console and serial lines that are the standard streams, and the end of a run. */
 #include "host.h"
 
 /* ---- words */
@@ -6,6 +6,7 @@
 enum { MOST_WORDS = 1 << 18 };
 static char words[MOST_WORDS]; /* each is ended by a 0 */
 static size words_length;
+int is_shell;
 
 static void put_letter(char letter) {
   if (words_length == MOST_WORDS) ends("host: the words are too long", LONG_WORDS);
@@ -29,6 +30,13 @@ void has_words(const char *text) {
   if (in_word) put_letter(0);
 }
 
+/* Begins anew, with the program's name and the words of a text. */
+void set_words(const char *text) {
+  words_length = 0;
+  has_words("tower ");
+  has_words(text);
+}
+
 /* Puts word i at the start of a buffer. Returns its length, -1 if there is no such word, and -2 if it does not fit; then the buffer is full. */
 long rattle_arg(size i, byte *buffer, size room) {
   size start = 0, length = 0;
@@ -39,39 +47,48 @@ long rattle_arg(size i, byte *buffer, size room) {
   return length <= room ? (long)length : -2;
 }
 
-/* ---- output */
+/* ---- lines */
 
-static unsigned short lines[3] = {0, 0x3F8, 0x2F8}; /* by the descriptor: standard output, standard error */
-static int lines_lock, faults;
+struct line lines[3];
+static int lines_lock;
+static struct processor *ender; /* the one that ends the run */
 
-/* Standard error goes to the second line, or to the first where there is no second. */
-void set_lines(void) {
-  static const byte settings[][2] = {{1, 0}, {3, 0x80}, {0, 1}, {1, 0}, {3, 3}, {2, 7}, {4, 3}}; /* 115,200 baud, 8 bits, no parity, queues */
-  out(lines[2] + 7, 0x5A); /* a register that only keeps what it is given */
-  if (in(lines[2] + 7) != 0x5A) lines[2] = lines[1];
-  for (unsigned i = 0; i < 2 * sizeof settings / sizeof *settings; i++) out(lines[1 + i % 2] + settings[i / 2][0], settings[i / 2][1]);
+enum { MOST_TYPED = 1 << 10, END_OF_INPUT = 4 };
+static byte typed[MOST_TYPED];
+static size typed_in, typed_out; /* how many bytes came in, and how many went out */
+static int typed_lock, is_typed, is_over, is_echoed;
+int is_listening;
+
+/* Sets a 16550 to 115,200 baud, 8 bits, no parity, with queues. What was typed before the boot is kept. */
+struct line line_16550(size at) {
+  static const byte settings[][2] = {{1, 0}, {3, 0x80}, {0, 1}, {1, 0}, {3, 3}, {2, 7}, {4, 0x0B}};
+  struct line it = {at, 5, 0, 0x20, 1};
+  if ((in(at + it.status) & 0x81) == it.has) typed[typed_in++] = in(at); /* no line is there where each bit is 1 */
+  for (unsigned i = 0; i < sizeof settings / sizeof *settings; i++) out(at + settings[i][0], settings[i][1]);
+  return it;
 }
 
-static void put(unsigned short line, const byte *bytes, size count) {
-  enum { QUEUE = 16, STATUS = 5, IS_EMPTY = 0x20 };
-  for (size at = 0; at < count; at++) {
-    while (at % QUEUE == 0 && !(in(line + STATUS) & IS_EMPTY)) pause();
-    out(line, bytes[at]);
-  }
+static int is(const struct line *it, byte what) { return (in(it->at + it->status) ^ it->flip) & what; }
+
+/* A byte goes out once the line takes one, so that no line has to keep any. */
+static void put(long fd, byte one) {
+  while (!is(&lines[fd], lines[fd].takes)) pause();
+  out(lines[fd].at, one);
+  show(fd, one);
 }
 
-long write(int fd, const byte *bytes, size count) {
-  if (fd != 1 && fd != 2) return fails(WRONG_FILE);
+long write(long fd, const byte *bytes, size count) {
+  if ((int)fd != 1 && (int)fd != 2) return fails(WRONG_FILE);
   lock(&lines_lock);
-  put(lines[fd], bytes, count);
+  for (size i = 0; i < count; i++) put((int)fd, bytes[i]);
   unlock(&lines_lock);
   return count;
 }
-long __write(int fd, const byte *bytes, size count) { return write(fd, bytes, count); }
+long __write(long fd, const byte *bytes, size count) { return write(fd, bytes, count); }
 
 /* What the host itself says goes to standard error. It takes no lock, since whoever has it may be what failed. */
 void say(const char *text) {
-  for (; *text; text++) put(lines[2], (const byte *)text, 1);
+  for (; *text; text++) put(2, *text);
 }
 
 void say_number(size number, unsigned base) {
@@ -81,56 +98,144 @@ void say_number(size number, unsigned base) {
   say(at);
 }
 
-/* ---- the end of a run */
+/* ---- standard input: what the loader left; or, where the first word is `typed` or `shell`, what is typed. An interrupt tells of it. It goes from the line's
+   own queue, which is short, to a longer one, whenever the first processor goes through its loop or a thread reads; a read waits until there is some. */
 
-/* QEMU's isa-debug-exit at port 0xF4 makes 2 * status + 3 of what it is given, since 1 is QEMU's own; where it is not there, the status is told and the
-   processor stands still. */
-_Noreturn void _exit(int status) {
-  enum { MOST_STATUS = 126, DEBUG_EXIT = 0xF4 };
-  out(DEBUG_EXIT, (status < MOST_STATUS ? status : MOST_STATUS) + 1);
+/* Takes the first word where it is one for the host. */
+void take_first_word(void) {
+  enum { TAKEN = 6 };
+  size at = 0;
+  while (at < words_length && words[at++]);
+  is_shell = at < words_length && is_same(words + at, "shell");
+  is_typed = is_shell || (at < words_length && is_same(words + at, "typed"));
+  if (!is_typed) return;
+  words_length -= TAKEN;
+  memmove(words + at, words + at + TAKEN, words_length - at);
+}
+
+void take_typed(void) {
+  if (!is_listening) return;
+  lock(&typed_lock);
+  size before = typed_in;
+  for (int one = 0; one >= 0 && typed_in - typed_out < MOST_TYPED;) {
+    one = in(lines[0].at + lines[0].status) != 0xFF && is(&lines[0], lines[0].has) ? in(lines[0].at) : key();
+    if (one >= 0) typed[typed_in++ % MOST_TYPED] = one;
+  }
+  size after = typed_in;
+  unlock(&typed_lock);
+  if (after != before) wake_all();
+}
+
+/* Begins an input that is typed, and that is shown as it is read. */
+void begin_typed(int it_is_echoed) {
+  is_over = 0;
+  is_echoed = it_is_echoed;
+}
+
+/* Moves what was typed to a buffer, up to a control-D: an end of the input, which stays. */
+static size take_out(byte *buffer, size room) {
+  size count = 0;
+  lock(&typed_lock);
+  for (; count < room && !is_over && typed_out != typed_in; typed_out++) {
+    byte one = typed[typed_out % MOST_TYPED];
+    is_over = one == END_OF_INPUT;
+    if (!is_over) buffer[count++] = one == '\r' ? '\n' : one;
+  }
+  unlock(&typed_lock);
+  return count;
+}
+
+static long read_typed(byte *buffer, size room) {
+  size count = 0;
+  if (!is_listening) listen();
+  is_listening = 1;
+  for (size had_come = wakes_so_far();; had_come = wakes_so_far()) {
+    take_typed();
+    count = take_out(buffer, room);
+    if (count || is_over || !room) break;
+    wait(had_come);
+  }
+  if (is_echoed) write(1, buffer, count);
+  return count;
+}
+
+long read(long fd, byte *buffer, size room) {
+  size left = input.end - input.start, count = left < room ? left : room;
+  if ((int)fd != 0) return fails(WRONG_FILE);
+  if (!input.end && is_typed) return read_typed(buffer, room);
+  memcpy(buffer, (const byte *)input.start, count);
+  input.start += count;
+  return count;
+}
+long lseek(long fd, long offset, long whence) { return fails(NO_SEEK); }
+
+/* ---- the end of a run. The first processor that ends it tells why, and any other stands still; it waits for a moment for what another writes */
+
+static _Noreturn void stand_still(void) {
+  me()->runs = 0;
+  for (;;) halt();
+}
+
+/* From here on no other processor writes. */
+static void begin_end(int status) {
+  enum { MOMENT = 100000 };
+  struct processor *nobody = 0;
+  interrupts_off();
+  if (__atomic_compare_exchange_n(&ender, &nobody, me(), 0, __ATOMIC_SEQ_CST, __ATOMIC_SEQ_CST))
+    for (int i = 0; i < MOMENT && __atomic_exchange_n(&lines_lock, 1, __ATOMIC_SEQ_CST); i++) pause();
+  else if (nobody != me())
+    stand_still();
+  else
+    power_off(status); /* a fault in what tells of one */
+}
+
+/* QEMU may go on for a moment behind its end, so the status is told later: where nothing ended the machine. */
+static _Noreturn void end_run(int status) {
+  enum { MOMENT = 300000 };
+  power_off(status);
+  for (int i = 0; i < MOMENT; i++) microsecond();
   say("status ");
   say_number(status, 10);
-  for (;;) __asm__ volatile("cli; hlt");
+  say("\n");
+  stand_still();
+}
+
+_Noreturn void _exit(long status) {
+  if (is_shell && (int)status < NO_ROOM) leave_command(status);
+  begin_end(status);
+  end_run(status);
 }
 
 _Noreturn void ends(const char *why, enum status status) {
+  begin_end(status);
   say(why);
   say("\n");
-  _exit(status);
+  end_run(status);
 }
 _Noreturn void abort(void) { ends("host: abort", ABORTED); }
 
-/* Tells of an exception, and where it was, on the stack of exceptions. */
-_Noreturn void trapped(size number, size error, size at, size stack) {
-  enum { PAGE_FAULT = 14 };
-  static const char *const names[32] = {"a division by 0", [6] = "an instruction that is none", [8] = "a fault in a fault", [13] = "a general protection fault",
-                                        [PAGE_FAULT] = "a page fault"};
-  size address;
-  if (faults++) _exit(TRAPPED); /* a fault in what tells of one */
-  __asm__ volatile("movq %%cr2, %0" : "=r"(address));
-  say("host: ");
-  say(number == PAGE_FAULT && is_guard(address) ? "a full stack" : names[number] ? names[number] : "an exception");
+/* Tells of an exception, and where it was. */
+_Noreturn void tell_trap(const char *what, size number, size error, size at, size stack, size address) {
   const size told[] = {number, error, at, stack, address};
-  const char *const told_as[] = {", number ", ", error ", ", at ", ", stack ", ", address "};
+  static const char *const told_as[] = {", number ", ", error ", ", at ", ", stack ", ", address "};
+  begin_end(TRAPPED);
+  say("host: ");
+  say(what);
   for (unsigned i = 0; i < sizeof told / sizeof *told; i++) {
     say(told_as[i]);
     say_number(told[i], i == 0 ? 10 : 16);
   }
-  ends("", TRAPPED);
+  say("\n");
+  end_run(TRAPPED);
 }
 
 /* ---- what else the program asks */
 
-long lseek(int fd, long offset, int whence) { return fails(NO_SEEK); }
-void *__sysv_signal(int number, void *handler) { return 0; } /* there are no signals */
+void *__sysv_signal(long number, void *handler) { return 0; } /* there are no signals */
 
-/* What the processor has, as glibc tells it: the four registers of a leaf, and the same as far as it is in use. Of other leaves, which the program does
-   not ask for, nothing. */
-const void *__x86_get_cpuid_feature_leaf(unsigned leaf) {
-  static unsigned told[3][8];
-  static const unsigned numbers[3] = {1, 0, 0x80000001};
-  unsigned place = leaf < 3 ? leaf : 1, *it = told[place];
-  if (numbers[place]) __asm__ volatile("cpuid" : "=a"(it[0]), "=b"(it[1]), "=c"(it[2]), "=d"(it[3]) : "a"(numbers[place]), "c"(0));
-  memcpy(it + 4, it, 4 * sizeof *it);
-  return it;
+/* What the program says of an error number. */
+int __xpg_strerror_r(long error, char *text, size room) {
+  static const char said[] = "an error of the host";
+  memcpy(text, said, sizeof said < room ? sizeof said : room);
+  return 0;
 }

@@ -16,6 +16,9 @@ header1:
         .balign 8
 header2:                                /* Multiboot 2 */
         .long MAGIC2, 0, header2_end - header2, -(MAGIC2 + header2_end - header2)
+        .word 5, 1                      /* a screen of 32 bits a dot, if there is one that has no letters: UEFI's */
+        .long 20, 0, 0, 32
+        .balign 8
         .long 0, 8
 header2_end:
         .global start32
@@ -24,8 +27,39 @@ start32:
         cld
         movl    $boot_stack_end, %esp
         movl    %eax, %ebp              /* the loader's magic number; ebx keeps where it left what it tells */
+        movl    %ebx, %edi
+        movl    $0x80000001, %eax
+        cpuid
+        movl    %edi, %ebx
+        andl    $0x20100000, %edx       /* long mode, and pages that are not run */
+        cmpl    $0x20100000, %edx
+        jne     is_too_old
+        movl    $directories, %edi      /* until C sets pages: 4 GiB, each address at itself, in pages of 2 MiB */
+        movl    $0x80 + PRESENT, %eax
+1:      movl    %eax, (%edi)
+        addl    $8, %edi
+        addl    $0x200000, %eax
+        jnc     1b
         call    to_long_mode
         ljmpl   $0x08, $first64
+
+/* It says so on the first serial line and on the screen, and ends with NO_PROCESSOR. */
+is_too_old:
+        movl    $too_old, %esi
+        movl    $0xB8000, %edi
+        movb    $0x0F, %ah
+1:      lodsb
+        testb   %al, %al
+        jz      2f
+        movw    $0x3F8, %dx
+        outb    %al, %dx
+        stosw
+        jmp     1b
+2:      movb    $122, %al
+        outb    %al, $0xF4
+3:      hlt
+        jmp     3b
+too_old: .asciz "host: a processor without long mode, or without pages that are not run"
 
 /* Page tables, long mode and SSE; the jump into 64-bit code is left. */
 to_long_mode:
@@ -35,7 +69,7 @@ to_long_mode:
         movl    %eax, %cr4
         movl    $0xC0000080, %ecx       /* EFER: long mode */
         rdmsr
-        orl     $0x100, %eax
+        orl     $0x900, %eax            /* and pages that are not run */
         wrmsr
         movl    $0x80010033, %eax       /* paging, write protection, the FPU, protection */
         movl    %eax, %cr0
@@ -86,9 +120,9 @@ other64:
         movq    (%rdi), %rsp
         call    other_processor
 
-/* Each exception goes to C with its number and where it came from; an interrupt only ends a halt. */
+/* Each exception goes to C with its number and where it came from. */
         .text
-        .global exceptions, ends_halt
+        .global exceptions, interrupt, tick
         .balign 16
 exceptions:
         .set    n, 0
@@ -108,7 +142,41 @@ to_trapped:
         movq    24(%rsp), %rcx
         andq    $-16, %rsp
         call    trapped
-ends_halt:
+
+/* An interrupt comes on a small stack of its own, since the one that runs may have a red zone. What is kept goes beneath that zone, and C is told. */
+tick:   pushq   %rax
+        pushq   %rcx
+        movb    $1, %cl
+        jmp     1f
+interrupt:
+        pushq   %rax
+        pushq   %rcx
+        movb    $0, %cl
+1:      movq    40(%rsp), %rax          /* the stack that ran */
+        subq    $128, %rax
+        andq    $-16, %rax
+        .irp    place, 0, 1, 2, 3, 4, 5, 6
+        subq    $8, %rax                /* ss, rsp, rflags, cs, rip, rax, rcx */
+        pushq   (48 - 8 * \place)(%rsp)
+        popq    (%rax)
+        .endr
+        movb    %cl, %ch
+        movq    %rax, %rsp
+        .irp    it, rdx, rsi, rdi, r8, r9, r10, r11, rbp
+        pushq   %\it
+        .endr
+        movzbl  %ch, %edi
+        movq    %rsp, %rbp
+        subq    $512, %rsp
+        andq    $-16, %rsp
+        fxsave64 (%rsp)
+        cld
+        call    took_interrupt
+        fxrstor64 (%rsp)
+        movq    %rbp, %rsp
+        .irp    it, rbp, r11, r10, r9, r8, rdi, rsi, rdx, rcx, rax
+        popq    %\it
+        .endr
         iretq
 
 /* change_stacks(kept, next): keeps the registers that C keeps over a call, on the stack, and goes on where another stack was left so. */
@@ -155,25 +223,17 @@ system_call:
         .balign 8
         .global first_gdt
 first_gdt:
-        .quad   0, 0x00AF9A000000FFFF, 0x00CF92000000FFFF, 0x00CF9A000000FFFF /* none, 64-bit code, data, 32-bit code */
+        .quad   0, 0x00AF9B000000FFFF, 0x00CF93000000FFFF, 0x00CF9B000000FFFF /* none, 64-bit code, data, 32-bit code */
 first_gdt_at:
         .word   31
         .long   first_gdt
 
-/* Page tables: 4 GiB, each address at itself, in pages of 2 MiB. */
+/* The upper page tables; memory.c has the lower ones. */
         .data
         .balign 4096
-        .global directories
 pml4:   .quad   pdpt + PRESENT
         .balign 4096
 pdpt:   .quad   directories + PRESENT, directories + 0x1000 + PRESENT, directories + 0x2000 + PRESENT, directories + 0x3000 + PRESENT
-        .balign 4096
-directories:
-        .set    n, 0
-        .rept   4 * 512
-        .quad   n + 0x80 + PRESENT      /* a large page */
-        .set    n, n + 0x200000
-        .endr
 
         .bss
         .balign 4096

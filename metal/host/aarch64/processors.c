@@ -1,0 +1,127 @@
+/* Arm's processors: their tables, exceptions, interrupts, timers, and how the others begin, by the calls of PSCI. */
+#include "host.h"
+
+extern byte vectors[], others_start[];
+void begin_by_tree(unsigned number, const byte *tree, struct line line, size configuration, size ports);
+size *first_table(void);
+
+#define KEPT_BY_NO_CALL "x4", "x5", "x6", "x7", "x8", "x9", "x10", "x11", "x12", "x13", "x14", "x15", "x16", "x17", "memory"
+static long psci(long function, long a, long b, long c) {
+  register long x0 __asm__("x0") = function, x1 __asm__("x1") = a, x2 __asm__("x2") = b, x3 __asm__("x3") = c;
+  __asm__ volatile("hvc #0" : "+r"(x0), "+r"(x1), "+r"(x2), "+r"(x3) : : KEPT_BY_NO_CALL);
+  return x0;
+}
+
+/* ---- interrupts: a GICv3 brings them from another processor, from the timer, and from the first line, a PL011 */
+
+enum { OTHER = 0, TICK = 27, LINE = 33, LINE_MASK = 0x38, LINE_HAS = 0x50 };
+static volatile unsigned *at(size place) { return (volatile unsigned *)place; }
+static volatile unsigned *gic(size place) { return at(0x08000000 + place); }
+
+/* Ends the halt of each other processor, or its next one if it is in none. */
+void end_halts(void) { __asm__ volatile("dsb sy; msr S3_0_C12_C11_5, %0; isb" : : "r"((size)1 << 40) : "memory"); }
+
+static size now(void) {
+  size it;
+  __asm__ volatile("isb; mrs %0, cntvct_el0" : "=r"(it));
+  return it;
+}
+static size ticks_of(size nanoseconds) {
+  size a_second;
+  __asm__ volatile("mrs %0, cntfrq_el0" : "=r"(a_second));
+  return a_second * nanoseconds / 1000000000;
+}
+
+void set_timer(size nanoseconds) { __asm__ volatile("msr cntv_tval_el0, %0; msr cntv_ctl_el0, %1; isb" : : "r"(ticks_of(nanoseconds)), "r"((size)1)); }
+
+/* Halts until an interrupt, also one that came since interrupts went off. */
+void halt(void) {
+  if (is_listening && me() == processors) *at(lines[0].at + LINE_MASK) = LINE_HAS;
+  __asm__ volatile("dsb sy; wfi; msr daifclr, #2; isb; msr daifset, #2" : : : "memory");
+}
+
+/* What start.S calls in an interrupt. The line's is on in a halt alone, since it stays until its byte is taken. */
+void took_interrupt(void) {
+  size number;
+  __asm__ volatile("mrs %0, S3_0_C12_C12_0; dsb sy" : "=r"(number) : : "memory");
+  if (number == TICK) __asm__ volatile("msr cntv_ctl_el0, %0; isb" : : "r"((size)0));
+  if (number == LINE) *at(lines[0].at + LINE_MASK) = 0;
+  __asm__ volatile("msr S3_0_C12_C12_1, %0; isb" : : "r"(number) : "memory");
+  interrupted(number == TICK);
+}
+
+/* From now on an interrupt of the first line ends a halt of the first processor. */
+void listen(void) {
+  *gic(0x6000 + 8 * LINE) = numbers[0];
+  *gic(0x84) = *gic(0x104) = 1 << LINE % 32;
+}
+
+/* A processor takes interrupts of the first kind: from others, and of its timer. */
+static void take_interrupts(void) {
+  enum { FRAME = 0x20000, NAME = 0xC, AWAKE = 0x14, KIND = 0x10080, ON = 0x10100, SLEEPS = 4 };
+  size own = 0x080A0000;
+  while (*at(own + NAME) != own_name()) own += FRAME;
+  *gic(0) = 0x12; /* by names of processors; interrupts of the first kind */
+  *at(own + AWAKE) = 0;
+  while (*at(own + AWAKE) & SLEEPS);
+  *at(own + KIND) = ~0u;
+  *at(own + ON) = 1 << OTHER | 1 << TICK;
+  __asm__ volatile("msr S3_0_C12_C12_5, %0; isb; msr S3_0_C4_C6_0, %1; msr S3_0_C12_C12_7, %0; isb" : : "r"((size)1), "r"((size)0xFF) : "memory");
+}
+
+/* ---- tables */
+
+void set_tables(struct processor *it) {
+  enum { ON = 1 | 1 << 2 | 1 << 12 }; /* the table of pages, caches of data and of instructions */
+  const size kinds = 0xFF | 0x00 << 8, space = 25 | (size)1 << 8 | (size)1 << 10 | (size)3 << 12 | (size)1 << 23 | (size)1 << 32;
+  static size *table;
+  size control;
+  __asm__ volatile("msr tpidr_el1, %0; msr vbar_el1, %1" : : "r"(it), "r"(vectors));
+  if (!table) table = first_table();
+  __asm__ volatile("msr mair_el1, %0; msr tcr_el1, %1; msr ttbr0_el1, %2" : : "r"(kinds), "r"(space), "r"(table) : "memory");
+  __asm__ volatile("dsb sy; isb; tlbi vmalle1; dsb sy; isb" : : : "memory");
+  __asm__ volatile("mrs %0, sctlr_el1" : "=r"(control));
+  __asm__ volatile("msr sctlr_el1, %0; isb" : : "r"(control | ON) : "memory");
+  take_interrupts();
+}
+
+void forget_pages(void) { __asm__ volatile("dsb ishst; tlbi vmalle1is; dsb ish; isb" : : : "memory"); }
+void forget_page(const byte *at) { __asm__ volatile("dsb ishst; tlbi vaae1is, %0; dsb ish; isb" : : "r"((size)at >> 12) : "memory"); }
+
+/* What start.S calls in an exception. */
+_Noreturn void trapped(size what, size address, size at, size stack) {
+  enum { NONE = 0, CODE_FAULT = 0x21, DATA_FAULT = 0x25, BREAK = 0x3C };
+  size number = what >> 26 & 63;
+  const char *name = number == NONE || number == BREAK ? "an instruction that is none" : "an exception";
+  if (number == CODE_FAULT || number == DATA_FAULT) name = number == DATA_FAULT && is_guard(address) ? "a full stack" : "a page fault";
+  tell_trap(name, number, what, at, stack, address);
+}
+
+/* ---- how processors begin, and how the run ends */
+
+void microsecond(void) {
+  for (size began = now(), it = ticks_of(1000); now() - began < it;);
+}
+
+void call_others(int is_first) {
+  const long CPU_ON = 0xC4000003;
+  for (unsigned i = 1; is_first && i < processor_count; i++) psci(CPU_ON, numbers[i], (long)others_start, (long)&processors[i]);
+}
+
+void first_processor(const byte *tree) {
+  has_processor(own_name());
+  lines[0] = lines[1] = lines[2] = (struct line){0x09000000, 0x18, 0x30, 0x20, 0x10};
+  *at(lines[0].at + 0x30) = 0x301; /* it sends and takes */
+  set_tables(processors);
+  if (!ticks_of(1000000000)) ends("host: there is no timer", NO_PROCESSOR);
+  begin_by_tree(own_name(), tree, lines[0], 0x3F000000, 0x3EFF0000);
+}
+
+/* QEMU's semihosting ends the machine with a status. */
+void power_off(int status) {
+  enum { EXIT_EXTENDED = 0x20, APPLICATION_EXIT = 0x20026 };
+  const size told[2] = {APPLICATION_EXIT, (size)(status & 0xFF)};
+  register size x0 __asm__("x0") = EXIT_EXTENDED;
+  register const size *x1 __asm__("x1") = told;
+  __asm__ volatile("hlt #0xF000" : : "r"(x0), "r"(x1) : "memory");
+}

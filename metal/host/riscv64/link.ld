@@ -1,0 +1,17 @@
+/* Behind the firmware, which lies in the first 2 MiB of memory. Code, constants and the rest begin on pages of their own. */
+ENTRY(start)
+PHDRS { all PT_LOAD FLAGS(7); }
+SECTIONS {
+  . = 0x80200000;
+  image_start = .;
+  .boot : { *(.boot) } :all
+  .text ALIGN(4096) : { *(.text .text.*) } :all
+  text_end = ALIGN(4096);
+  .rodata ALIGN(4096) : { *(.rodata .rodata.* .srodata .srodata.* .data.rel.ro .data.rel.ro.*) } :all
+  .got : { *(.got .got.*) } :all
+  constants_end = ALIGN(4096);
+  .data ALIGN(4096) : { *(.data .data.* .sdata .sdata.*) } :all
+  .bss : { *(.sbss .sbss.* .bss .bss.* COMMON) } :all
+  image_end = .;
+  /DISCARD/ : { *(.comment) *(.eh_frame) *(.note*) *(.riscv.attributes) }
+}

@@ -1,0 +1,128 @@
+/* A shell on the console, where the loader's first word is `shell`: each line is a command of the program, which runs in a thread. Its input is a plan that
+   is in the image, `< NAME`, or else is typed, up to a control-D. `step NAME` runs a plan again at each key, by a schedule that grows. */
+#include "host.h"
+
+long main(void); /* the program's own */
+extern const struct plan { const char *name; size start, end; } plans[], plans_end[]; /* build.py puts them into the image */
+enum { MOST_LETTERS = 1000, CONTROL_D = 4, BACK = '\b', DELETE = 127 };
+static int is_running, left; /* whether a command of the program runs, and the status that the last one left */
+
+static void tell(const char *text) {
+  for (; *text; text++) write(1, (const byte *)text, 1);
+}
+
+/* The program ends by a call: its thread ends. */
+void leave_command(int status) {
+  if (!is_running) return;
+  left = status;
+  end_command();
+}
+
+static void *run_command(void *none) { _exit(main()); }
+
+/* Runs the program with these words, and forgets what it left of the heap. */
+static void command(const char *words, const struct plan *plan) {
+  size thread, none = 0;
+  set_words(words);
+  input = plan ? (struct region){plan->start, plan->end} : (struct region){0, 0};
+  begin_typed(!plan);
+  is_running = 1;
+  if (pthread_create(&thread, &none, run_command, 0)) ends("host: too little memory", NO_ROOM);
+  pthread_join(thread, 0);
+  is_running = 0;
+  input.end = 0;
+  begin_heap();
+}
+
+/* The plan of a name, with or without its .toml; or 0, which is told. */
+static const struct plan *named(const char *name) {
+  size length = 0;
+  while (*name == ' ') name++;
+  while (name[length] && name[length] != ' ') length++;
+  for (const struct plan *it = plans; it < plans_end; it++) {
+    size i = 0;
+    while (i < length && it->name[i] == name[i]) i++;
+    if (length && i == length && (!it->name[i] || is_same(it->name + i, ".toml"))) return it;
+  }
+  tell("there is no such plan; ls lists them\n");
+  return 0;
+}
+
+/* Reads a key. A control-D is one too. */
+static byte ask_key(void) {
+  byte one;
+  begin_typed(0);
+  return read(0, &one, 1) == 1 ? one == DELETE ? BACK : one : CONTROL_D;
+}
+
+/* Reads a line, and shows it as it grows. */
+static void ask(char *line) {
+  size at = 0;
+  for (byte one = 0; one != '\n';) {
+    one = ask_key();
+    if (one == BACK && at) at--, tell("\b \b");
+    if (one < ' ' || at == MOST_LETTERS) continue;
+    write(1, &one, 1);
+    line[at++] = one;
+  }
+  tell("\n");
+  line[at] = 0;
+}
+
+/* Each digit, or letter from a to f, is one step more, of that CPU; a backspace takes one away, and q ends. */
+static void step(const struct plan *plan) {
+  static const char begins[] = "run --schedule=";
+  static char line[sizeof begins + 4 * MOST_LETTERS];
+  size at = sizeof begins - 1, first = at;
+  memcpy(line, begins, sizeof begins);
+  for (byte one = 0; one != 'q' && one != CONTROL_D; one = ask_key()) {
+    unsigned cpu = one >= '0' && one <= '9' ? one - '0' : one >= 'a' && one <= 'f' ? one - 'a' + 10 : 16;
+    if (one && one != BACK && cpu == 16) continue;
+    if (one == BACK) {
+      while (at > first && line[at - 1] != ',') at--;
+      at -= at > first;
+    } else if (one && at + 4 < sizeof line) {
+      if (at > first) line[at++] = ',';
+      if (cpu > 9) line[at++] = '1';
+      line[at++] = '0' + cpu % 10;
+    }
+    line[at] = 0;
+    tell("\n\n");
+    tell(line);
+    tell("\n");
+    command(line, plan);
+    tell("0 to 9, a to f: a step of that CPU. Backspace: one less. q: the end.\n");
+  }
+}
+
+static void obey(char *line) {
+  char *from = line;
+  while (*from && *from != '<') from++;
+  int is_named = *from == '<', steps = begins_with(line, "step ");
+  if (is_named) *from++ = 0;
+  const struct plan *plan = is_named ? named(from) : steps ? named(line + 5) : 0;
+  if ((is_named || steps) && !plan) return;
+  if (steps) return step(plan);
+  command(line, plan);
+  say("status ");
+  say_number(left, 10);
+  say("\n");
+}
+
+_Noreturn void shell(void) {
+  static char line[MOST_LETTERS + 1];
+  tell("The verified thread tower. help lists the commands.\n");
+  for (;;) {
+    tell("tower> ");
+    ask(line);
+    if (is_same(line, "help"))
+      tell("run --schedule 0*21 < one-send   a command of mctower, on a plan; without < its input is typed, up to control-D\n"
+           "step one-send                    a plan, by a schedule that grows by a key\n"
+           "ls                               the plans\n"
+           "--help, run --help               mctower's own help\n");
+    else if (is_same(line, "ls"))
+      for (const struct plan *it = plans; it < plans_end; it++) tell(it->name), tell("\n");
+    else if (line[0])
+      obey(line);
+  }
+}
