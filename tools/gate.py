@@ -58,12 +58,13 @@ tests/parks.py
 web/in_browser.py
 metal/test.py
 metal/wrong_hosts.py
+metal/console.py
 embed/test.py
 embed/wrong_hosts.py
 """
 # These look at nothing where there is no browser, no QEMU or no C compiler. They end with this status then, and print why: such a one is left out, and has
 # not failed.
-MAY_LOOK_AT_NOTHING = {"web/in_browser.py", "metal/test.py", "metal/wrong_hosts.py", "embed/test.py", "embed/wrong_hosts.py"}
+MAY_LOOK_AT_NOTHING = {"web/in_browser.py", "metal/test.py", "metal/wrong_hosts.py", "metal/console.py", "embed/test.py", "embed/wrong_hosts.py"}
 LOOKED_AT_NOTHING = 77
 # Without these some script fails. The scripts look for rustc in that folder too.
 TOOLS = ("rt", "python3", "node", "rustc")
