@@ -35,7 +35,7 @@ use Rattle.fifo_buffer.specs.contracts.{call_state_table.CallStates.{the_row as 
 use Rattle.{fifo_buffer.specs.contracts.fifo.Fifo.the_type as fifo_type, spinlock.specs.contracts.spin_lock.SpinLock.the_row as spin_lock_row}
 use Rattle.spinlock.{specs.contracts.spin_lock.SpinLock.the_type as spin_lock_type, proofs.stages.TicketPhase.TheSendSync.the_send as ticket_phase_send}
 use Rattle.cpu_workers.specs.contracts.workers.seats.TowerSeat.{the_row as seat_row, TheInside.the_type as inside_type}
-use Rattle.cpu_workers.proofs.bells.Bells.TheSendSync.the_sync as bells_sync
+use Rattle.cpu_workers.proofs.bells.Bells.TheSendSync.{the_sync as bells_sync}
 
 deferred_send : (E A : RattleType) → IsSend A → IsSend (deferred_row E A)
 deferred_send E A s = declared_send (deferred_type E A)

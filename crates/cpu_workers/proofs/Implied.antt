@@ -1,6 +1,6 @@
 -- What follows from what.
 use Rattle.std.proofs.Common.{◌≡◌, List, [], ◌∷◌, ◌++◌, Bool, true, false, ◌==◌, ap, sym, refl, ◌∙◌, subst, append_assoc, arith, reverse}
-use Rattle.std.proofs.lemmas.List.append-nil
+use Rattle.std.proofs.lemmas.List.{append-nil}
 use Rattle.std.specs.List.{AllByRecursion}
 use Rattle.event_log.specs.{declared.{entries.Entry.Entry, ids.CpuId.CpuId}, Actions.{Action, cpu_of_action}, History.same_cpu}
 use Rattle.cpu.specs.{Cpus.of_cpu, Tower.Views.TowerName}

@@ -6,7 +6,7 @@ use Rattle.std.proofs.Common.{inl, inr}
 use Rattle.std.specs.Prelude.{filter, slice_get}
 use Rattle.event_log.specs.{declared.{entries.Entry.Entry, ids.{CpuId.CpuId, Tid.Tid}}, Actions.Action}
 use Rattle.cpu.specs.{Cpus.{of_cpu, of_thread}, Table.Setups.{Call, Private, Setup, has_none, thread_at}, Tower.Views.TowerName}
-use Rattle.cpu.proofs.WholeSystems.OneOrder.filter_reversed
+use Rattle.cpu.proofs.WholeSystems.OneOrder.{filter_reversed}
 use Rattle.cpu_workers.specs.{Fronts.{AreLinearizable, IsFront}, Orders.effects_of}
 use Rattle.cpu_workers.specs.RealTime.{ReturnedComeFirst, StandsAt, calls_begun, begun_with, thread_entries}
 use Rattle.cpu_workers.specs.RealTime.{calls_returned, returned_with}
