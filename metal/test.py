@@ -254,7 +254,7 @@ def small(held):
     few, many = ["count", "--cpus", "2", "--times", "9"], ["count", "--cpus", "16", "--times", "9"]
     full_traces = ["run", "--schedule", ALL_SEND], with_full_traces()
     table = [
-        ("enough for sixteen threads", many, b"", 1, 32, (0, b"plain 144\ntable 144\n", b"")),
+        ("enough for sixteen threads", many, b"", 1, 40 if held.machine.name == "aarch64" else 32, (0, b"plain 144\ntable 144\n", b"")),
         ("enough for two threads", few, b"", 2, 16, (0, b"plain 18\ntable 18\n", b"")),
         ("no room for traces", *full_traces, 1, 64, (1, b"", b"error: NoMemory(1)\n")),
         ("long words", ["run", "--schedule", "0," * 70000], b"", 1, 64, (118, b"", b"metal: the words are longer than QEMU takes\n")),
