@@ -6,9 +6,9 @@
     metal/wrong_hosts.py --all           each edit of metal/wrong
     metal/wrong_hosts.py NAME..          these alone
 
-An edit of metal/wrong says in its line `seen:` which kinds of cases see it, or which cases, as host/spread; behind a line `file:`, which names a file of metal/host, each line `old:` is
-replaced by the line `new:` beneath it. The first case that differs is told. A run that hangs differs too, after the seconds that METAL_SECONDS names, or
-20. Where there is no QEMU it says so, and its status is 77. The last line counts; the status is 1 if a fault was not seen.
+An edit of metal/wrong says in its line `seen:` which kinds of cases see it, or which cases, as host/spread; behind a line `file:`, which names a file of
+metal/host, each line `old:` is replaced by the line `new:` beneath it. The first case that differs is told. A run that hangs differs too, after the seconds
+that METAL_SECONDS names, or 20. Where there is no QEMU it says so, and its status is 77. The last line counts; the status is 1 if a fault was not seen.
 """
 import argparse
 import os
