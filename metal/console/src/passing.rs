@@ -5,7 +5,7 @@ ghost use Rattle.console.specs.Passing.{HavePassed};
 
 use crate::ends::End;
 use cpu_workers::{NativeReport, WorkerError, run_native};
-use std::alloc::{AllocError, Global};
+use std::alloc::Global;
 use std::io::{Read, Write};
 use std::sync::Wait;
 use std::thread::Threads;
@@ -36,9 +36,8 @@ where
     W: Write + Drop + Send,
     ensures { IfOk result (λ r. HavePassed T.remaining W.contents input output r.natives.items) }
 {
-    let ends = [End::Typist(input, Ok(())), End::Printer(output, Ok(()))];
-    match Vec::from_array(alloc, ends) {
-        Ok(ends) => run_native(rt, alloc, &[CAPACITY], ends),
-        Err(refused) => Err(AllocError::from(refused).into()),
-    }
+    let mut ends = Vec::with_capacity(alloc, 2)?;
+    ends.push_reserved(End::Typist(input, Ok(())));
+    ends.push_reserved(End::Printer(output, Ok(())));
+    run_native(rt, alloc, &[CAPACITY], ends)
 }
