@@ -315,11 +315,14 @@ function growths() {
   for (const [earlier, later, holds] of cases) is(`CPU 1 from ${earlier.length} calls to ${later.length}`, hasGrown([earlier], [later], 1) === holds);
 }
 
+// The text of a script without its lines of comments, as web/build.py puts it into the page.
+const codeOf = text => text.split('\n').filter(line => !line.trimStart().startsWith('//')).join('\n');
+
 // The page is built of the files that stand in the tree: no other test sees a change of one of them that is not built yet.
 function isOfTree() {
   const page = read('web/tower.html'), scripts = readdirSync(join(ROOT, 'web/page')).filter(name => name.endsWith('.js')).map(name => `web/page/${name}`);
   for (const path of ['plans/look.js', ...scripts]) {
-    is(`${path} is not that of the page: web/build.py --page`, hasElement(page, path) && elementOf(page, idOf(path)) === `\n${read(path)}`);
+    is(`${path} is not that of the page: web/build.py --page`, hasElement(page, path) && elementOf(page, idOf(path)) === `\n${codeOf(read(path))}`);
   }
   for (const [name, text] of Object.entries(JSON.parse(elementOf(page, 'plans')))) is(`the plan ${name} is not that of the page`, text === read(`plans/${name}.toml`));
   is('a plan is not in the page', Object.keys(JSON.parse(elementOf(page, 'plans'))).length === readdirSync(join(ROOT, 'plans')).filter(name => name.endsWith('.toml')).length);
