@@ -2,7 +2,7 @@
 """Holds the booted program against the native one, and judges what its processors do.
 
     metal/test.py                   the gate's: a part of each kind on a PC, and a small part on each other machine whose
-                                    QEMU is there and whose module is kept; at most two minutes
+                                    QEMU is there and whose module is kept; about two minutes
     metal/test.py --all             all of each kind on a PC: ten minutes of processor time
     metal/test.py --machine NAME    all that follows on this machine alone: x86_64, riscv64, aarch64
     metal/test.py --only KIND..     these kinds alone: plans random damaged lines count threads rows small host slices
