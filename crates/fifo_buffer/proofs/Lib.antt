@@ -8,3 +8,8 @@ pub mod Chains
 pub mod Opening
 pub mod LineLemmas
 pub mod Parts
+pub mod MonitorLines
+pub mod MonitorPolls
+pub mod MonitorPasses
+pub mod MonitorCalled
+pub mod MonitorsAreFree

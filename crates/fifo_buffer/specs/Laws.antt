@@ -6,3 +6,6 @@ pub mod Tallies
 pub mod WaitLists
 pub mod FifoLaws
 pub mod OwnedLaws
+pub mod MonitorTallies
+pub mod MonitorLaws
+pub mod MonitorOwned

@@ -6,4 +6,10 @@ pub mod Tallies
 pub mod OwnedLaws
 pub mod Positions
 pub mod Served
+pub mod Monitors
+pub mod MonitorSections
+pub mod MonitorHistories
+pub mod MonitorWakeUps
+pub mod MonitorParts
+pub mod MonitorOwned
 pub mod Laws

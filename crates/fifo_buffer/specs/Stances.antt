@@ -1,13 +1,23 @@
 -- Where a thread is in its message call, read from the sections of the buffers: which lock it
 -- holds, in which line it is with which position, and whether its try failed.
-use Rattle.std.specs.Prelude.{◌≡◌, ◌≢◌, ℕ, Bool, true, false, not, ◌&&◌, List, [], Option, Some, None, is_some}
-use Rattle.event_log.specs.{declared.ids.{BufId.BufId, LockId.{LockId, TheVariants.Buffer}, Tid.Tid}, History.same_lock}
-use Rattle.layer_traits.specs.declared.{calls.{Call.{Call, TheVariants.Close}, Effect.Effect}, buffer_edits.BufferOut.BufferOut, conditions.CvOut.CvOut}
-use Rattle.layer_traits.specs.declared.locked.{QOut.{QOut, TheVariants.{Acquired, Queued, Did, Released}}, Side.{Side, TheVariants.{Receivers, Senders}}}
-use Rattle.layer_traits.specs.declared.call_states.Stage.{Stage, TheVariants.{Idle, Acquires, Tries, Waits, AcquiresAgain, Signals, SignalsOwn, Releases}}
-use Rattle.layer_traits.specs.{declared.call_states.CallState.CallState, Blocks.{BufferBlocks.line_of, BufferEffects.drawn, BufferProtocol.BufferLock}}
-use Rattle.layer_traits.specs.{Blocks.BufferProtocol.{BufferSection, buffer_lock_at, has_tried_in_vain}, Layers.BufferLaw.{buffer_of, recorded, side_of}}
-use Rattle.{layer_traits.specs.Threads.Places.{count_in, one_if}, thread_blocks.specs.Queues.is_in}
+use Rattle.std.specs.Prelude.{◌≡◌, ◌≢◌, ℕ, Bool, true, false, not, ◌&&◌, List, [], Option, Some}
+use Rattle.std.specs.Prelude.{None, is_some}
+use Rattle.event_log.specs.declared.ids.{BufId.BufId, LockId.{LockId, TheVariants.Buffer}, Tid.Tid}
+use Rattle.{event_log.specs.History.same_lock, layer_traits.specs.declared.calls.Call.Call}
+use Rattle.layer_traits.specs.declared.calls.{Call.TheVariants.Close, Effect.Effect}
+use Rattle.layer_traits.specs.declared.{buffer_edits.BufferOut.BufferOut, conditions.CvOut.CvOut}
+use Rattle.layer_traits.specs.declared.locked.QOut.{QOut, TheVariants.{Acquired, Queued, Did}}
+use Rattle.layer_traits.specs.declared.locked.{QOut.TheVariants.Released, Side.Side}
+use Rattle.layer_traits.specs.declared.locked.Side.TheVariants.{Receivers, Senders}
+use Rattle.layer_traits.specs.declared.call_states.Stage.{Stage, TheVariants.{Idle, Acquires}}
+use Rattle.layer_traits.specs.declared.call_states.Stage.TheVariants.{Tries, Waits, AcquiresAgain}
+use Rattle.layer_traits.specs.declared.call_states.Stage.TheVariants.{Signals, SignalsOwn, Releases}
+use Rattle.layer_traits.specs.declared.call_states.CallState.{CallState}
+use Rattle.layer_traits.specs.Blocks.{BufferBlocks.line_of, BufferEffects.drawn}
+use Rattle.layer_traits.specs.Blocks.BufferProtocol.{BufferLock, BufferSection, buffer_lock_at}
+use Rattle.layer_traits.specs.{Blocks.BufferProtocol.has_tried_in_vain, Layers.BufferLaw.buffer_of}
+use Rattle.layer_traits.specs.{Layers.BufferLaw.{recorded, side_of}, Threads.Places.count_in}
+use Rattle.{layer_traits.specs.Threads.Places.one_if, thread_blocks.specs.Queues.is_in}
 use Rattle.layer_traits.specs.declared.conditions.CvOut.TheVariants as answer
 
 -- whether two sides are one
@@ -88,17 +98,24 @@ IsMark b may (Some at) = (at ≡ b) × (may ≡ true)
 
 module _ (opening : LockId → Option BufferLock) (past : List BufferSection) (t : Tid) where
   -- a thread's grip on each lock, how often it is in each line, and its position if it is in one
-  pub record Stance (b : BufId) (side : Side) (holds asks lined : Bool) (position : ℕ) : Type 0 where
-    pub grip : (lock : LockId) → Grip t (holds && same_lock lock (Buffer b)) (asks && same_lock lock (Buffer b)) (buffer_lock_at opening past lock)
+  pub record Stance (b : BufId) (side : Side) (holds asks lined : Bool) (position : ℕ) : Type
+      0 where
+    pub grip : (lock : LockId)
+        → Grip t (holds && same_lock lock (Buffer b)) (asks && same_lock lock (Buffer b))
+        (buffer_lock_at opening past lock)
     pub line : (lock : LockId) (at : Side)
-        → count_in t (line_at at (buffer_lock_at opening past lock)) ≡ one_if (lined && (same_lock lock (Buffer b) && same_side at side))
+        → count_in t (line_at at (buffer_lock_at opening past lock))
+        ≡ one_if (lined && (same_lock lock (Buffer b) && same_side at side))
     pub drawn_is : lined ≡ true → position ≡ drawn opening (Buffer b) side t past
 
   -- a thread within a call, at a stage, with its position and its effect
-  pub record InCall (call : Call) (slept waits : Option BufId) (stage : Stage) (position : ℕ) (effect : Option Effect) : Type 0 where
+  pub record InCall (call : Call) (slept waits : Option BufId) (stage : Stage) (position : ℕ)
+      (effect : Option Effect) : Type 0 where
     pub called : called_at stage ≡ true
-    pub stance : Stance (buffer_of call) (side_of call) (holds_at stage (is_some waits)) (is_some slept) (lined_at stage) position
-    pub vain : (waits_at stage && not (is_some waits)) ≡ true → has_tried_in_vain opening (Buffer (buffer_of call)) (side_of call) t past ≡ true
+    pub stance : Stance (buffer_of call) (side_of call) (holds_at stage (is_some waits))
+        (is_some slept) (lined_at stage) position
+    pub vain : (waits_at stage && not (is_some waits)) ≡ true
+        → has_tried_in_vain opening (Buffer (buffer_of call)) (side_of call) t past ≡ true
     pub joins : lined_at stage ≡ true → EntersLine call
     pub effect_is : is_some effect ≡ done_at stage
     pub slept_here : IsMark (buffer_of call) (asks_at stage) slept
@@ -114,14 +131,16 @@ module _ (opening : LockId → Option BufferLock) (past : List BufferSection) (t
   -- a thread's call state agrees with its call
   abbrev pub CallStateFits : Option Call → Option BufId → Option BufId → CallState → Type 0
   CallStateFits None slept waits call_state = AtRest slept waits call_state.stage
-  CallStateFits (Some call) slept waits call_state = InCall call slept waits call_state.stage call_state.position call_state.effect
+  CallStateFits (Some call) slept waits call_state =
+      InCall call slept waits call_state.stage call_state.position call_state.effect
 
   abbrev pub ThreadFits : Option BufId → Option BufId → CallState → Type 0
   ThreadFits slept waits call_state = CallStateFits call_state.call slept waits call_state
 
 -- a call state within a call
 abbrev pub call_state_in : Stage → Call → ℕ → Option Effect → CallState
-call_state_in stage call position effect = record { stage = stage; call = Some call; position = position; effect = effect }
+call_state_in stage call position effect =
+    record { stage = stage; call = Some call; position = position; effect = effect }
 
 -- what a section's result leaves of the marks of its caller: whether it sleeps for the lock, and
 -- whether it waits
@@ -139,8 +158,10 @@ waits_by b other = None
 
 -- and of its call state: a caller that sleeps or waits has no result yet
 abbrev pub recorded_in : CallState → Stage → CvOut BufferOut → CallState
-recorded_in call_state stage (answer.Did out) = recorded call_state stage (Released (answer.Did out))
-recorded_in call_state stage (answer.Signalled side front) = recorded call_state stage (Released (answer.Signalled side front))
+recorded_in call_state stage (answer.Did out) =
+    recorded call_state stage (Released (answer.Did out))
+recorded_in call_state stage (answer.Signalled side front) =
+    recorded call_state stage (Released (answer.Signalled side front))
 recorded_in call_state stage answer.Left = recorded call_state stage (Released answer.Left)
 recorded_in call_state stage (answer.Waited side) = call_state
 

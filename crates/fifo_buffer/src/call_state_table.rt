@@ -101,7 +101,9 @@ impl CallStates {
         requires known { t.0 < THREADS }
         requires stage { stage ≡ (going (call_state_of self.old.call_states t) call.now).stage }
         ensures done { result ≡ is_some answer.now }
-        ensures call_states { self.new.call_states ≡ slice_set self.old.call_states t.0 (recorded_if (going (call_state_of self.old.call_states t) call.now)
+        ensures call_states { self.new.call_states
+            ≡ slice_set self.old.call_states t.0
+            (recorded_if (going (call_state_of self.old.call_states t) call.now)
             stage (told_by outcome_of answer.now parcel.now)) }
     {
         let call_state = &mut self.call_states[usize::from(t.0)];

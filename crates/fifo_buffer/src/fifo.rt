@@ -43,31 +43,41 @@ impl<C: ThreadLayer<CvLaw<BufferEdit>>> Fifo<C> {
     #[inline(always)]
     fn poll_section(&mut self, m: &mut C::Machine, t: Tid, call: &Call, stage: Stage) -> SectionPoll
         requires known { t.0 < THREADS }
-        requires stage { stage ≡ (going (call_state_of self.old.call_states.call_states t) call.now).stage }
+        requires stage { stage
+            ≡ (going (call_state_of self.old.call_states.call_states t) call.now).stage }
         requires fits { C.Fits self.old.lower m.old }
         requires buffer { IsSome (C.opening m.old (Buffer (buffer_of call.now))) }
         requires room { 0 < C.room m.old }
         requires sizes { Sizes (C.own self.old.lower) self.old.call_states.call_states }
-        requires may { MayPollSection (inner (C.opening m.old)) (buffer_sections (C.seen m.old)) t call.now
+        requires may { MayPollSection (inner (C.opening m.old)) (buffer_sections (C.seen m.old)) t
+            call.now
             (going (call_state_of self.old.call_states.call_states t) call.now)
             (C.own self.old.lower)
             (C.under_way self.old.lower) }
-        ensures section_polled { SectionPolled (homes_in (C.opening m.old)) (λ c. C.ActsFor m.old c) (inner (C.opening m.old))
+        ensures section_polled { SectionPolled (homes_in (C.opening m.old)) (λ c. C.ActsFor m.old c)
+            (inner (C.opening m.old))
             (C.cpu_of self.old.lower) t call.now
-            (going (call_state_of self.old.call_states.call_states t) call.now) (C.seen m.old) (C.seen m.new) (C.own self.old.lower) (C.own self.new.lower)
+            (going (call_state_of self.old.call_states.call_states t) call.now) (C.seen m.old)
+            (C.seen m.new) (C.own self.old.lower) (C.own self.new.lower)
             (C.under_way self.new.lower) result.ended
             (call_state_of self.new.call_states.call_states t) }
         ensures at_once { result.at_once ≡ is_at_once stage
-            (is_handed (C.own self.old.lower).lock.slept (C.own self.old.lower).lock.sleep.threads.current) }
+            (is_handed (C.own self.old.lower).lock.slept
+            (C.own self.old.lower).lock.sleep.threads.current) }
         ensures call_states { self.new.call_states.call_states
-            ≡ slice_set self.old.call_states.call_states t.0 (call_state_of self.new.call_states.call_states t) }
+            ≡ slice_set self.old.call_states.call_states t.0
+            (call_state_of self.new.call_states.call_states t) }
         ensures calling { self.new.calling ≡ self.old.calling }
         ensures woken { IsSome (slept_for (C.own self.old.lower).waits t) → m.new ≡ m.old }
         ensures handed { IsSome (slept_for (C.own self.old.lower).lock.slept t) → m.new ≡ m.old }
-        ensures framed { Framed (λ (p : C) k. C.Fits p k) (λ p. C.cpu_of p) (λ k. C.opening k) (λ k. C.site k) (λ k. C.room k)
-            (λ k c. C.ActsFor k c) (λ k c. C.MayHold k c) self.old.lower self.new.lower m.old m.new }
+        ensures framed { Framed (λ (p : C) k. C.Fits p k) (λ p. C.cpu_of p) (λ k. C.opening k)
+            (λ k. C.site k) (λ k. C.room k)
+            (λ k c. C.ActsFor k c) (λ k c. C.MayHold k c) self.old.lower self.new.lower m.old
+            m.new }
         ensures follows { C.IsStepwise
-            → Follows (C.ActsFor m.old) (table_of (queue_rules (lock_rules buffer_rules) (lock_moves buffer_rules))) (C.opening m.old)
+            → Follows (C.ActsFor m.old)
+            (table_of (queue_rules (lock_rules buffer_rules) (lock_moves buffer_rules)))
+            (C.opening m.old)
             (C.cpu_of self.old.lower)
             (stage_plan (homes_in (C.opening m.old)) (C.cpu_of self.old.lower) t call.now
             (going (call_state_of self.old.call_states.call_states t) call.now).stage
@@ -76,8 +86,12 @@ impl<C: ThreadLayer<CvLaw<BufferEdit>>> Fifo<C> {
             (C.acts m.old) (C.acts m.new)
             (record {
               own = buffering (C.own self.new.lower) self.new.call_states.call_states;
-              answer = if result.ended then replied call.now (going (call_state_of self.old.call_states.call_states t) call.now)
-                  (going (call_state_of self.old.call_states.call_states t) call.now).stage else None;
+              answer =
+                  if result.ended
+                  then replied call.now
+                  (going (call_state_of self.old.call_states.call_states t) call.now)
+                  (going (call_state_of self.old.call_states.call_states t) call.now).stage
+                  else None;
             }) }
     {
         let at_once = answers_at_once(stage, self.lower.at_once());
@@ -98,8 +112,10 @@ impl<C: ThreadLayer<CvLaw<BufferEdit>>> Fifo<C> {
     fn complete(&mut self, t: Tid, call: &Call, stage: Stage, done: bool) -> Option<ReplyKind>
         requires known { t.0 < THREADS }
         ensures answer { answer_in self.old.call_states.call_states t result
-            ≡ (if done then reply_at call.now stage (call_state_of self.old.call_states.call_states t).effect else None) }
-        ensures calling { self.new.calling ≡ calling_after t (C.own self.old.lower).lock.sleep.threads.current
+            ≡ (if done then reply_at call.now stage
+            (call_state_of self.old.call_states.call_states t).effect else None) }
+        ensures calling { self.new.calling
+            ≡ calling_after t (C.own self.old.lower).lock.sleep.threads.current
             (answer_in self.old.call_states.call_states t result) }
         ensures lower { self.new.lower ≡ self.old.lower }
         ensures call_states { self.new.call_states.call_states ≡ self.old.call_states.call_states }

@@ -66,7 +66,8 @@ fn next_try(t: Tid, call: &Call, parcel: &mut Parcel) -> BareBufferEdit
 /// effect.
 #[inline(always)]
 fn kind_by(call: &Call, kind: Kind) -> ReplyKind
-    ensures { (effect : Option Effect) → reply_with result effect ≡ reply_by call.now kind (message_of effect) }
+    ensures { (effect : Option Effect)
+        → reply_with result effect ≡ reply_by call.now kind (message_of effect) }
 {
     match call {
         Call::Send(_, _) => match kind {
@@ -118,7 +119,9 @@ pub fn begin(call_state: &mut CallState, call: &Call)
 /// Records the result of a section that entered a line or closed the buffer: the thread's position,
 /// or the effect of the close. The numbers are in the parcel.
 fn record_entry(call_state: &mut CallState, out: &QOut<CvOut<BareBufferOut>>, parcel: &Parcel)
-    ensures { call_state.new ≡ enlisted call_state.old (reported_by (lock_told (cv_told buffer_told) out.now parcel.now)) }
+    ensures { call_state.new
+        ≡ enlisted call_state.old
+        (reported_by (lock_told (cv_told buffer_told) out.now parcel.now)) }
 {
     match out {
         QOut::Did(CvOut::Did(BareBufferOut::Entered)) => {
@@ -143,7 +146,8 @@ fn record_entry(call_state: &mut CallState, out: &QOut<CvOut<BareBufferOut>>, pa
 /// Records the result of a try: its effect, with the message and the number that are in the parcel,
 /// or that the thread must wait.
 fn record_try(call_state: &mut CallState, out: &QOut<CvOut<BareBufferOut>>, parcel: &Parcel)
-    ensures { call_state.new ≡ tried call_state.old (reported_by (lock_told (cv_told buffer_told) out.now parcel.now)) }
+    ensures { call_state.new
+        ≡ tried call_state.old (reported_by (lock_told (cv_told buffer_told) out.now parcel.now)) }
 {
     match out {
         QOut::Did(CvOut::Did(BareBufferOut::Done(kind))) => {
@@ -170,7 +174,8 @@ pub fn record_section(
     out: &QOut<CvOut<BareBufferOut>>,
     parcel: &Parcel,
 )
-    ensures { call_state.new ≡ recorded call_state.old stage (lock_told (cv_told buffer_told) out.now parcel.now) }
+    ensures { call_state.new
+        ≡ recorded call_state.old stage (lock_told (cv_told buffer_told) out.now parcel.now) }
 {
     match stage {
         Stage::Idle => {}
@@ -192,7 +197,8 @@ pub fn record_section(
 /// effect, after the last section.
 #[inline(always)]
 pub fn reply(call: &Call, stage: Stage, effect: &Option<Effect>) -> Option<ReplyKind>
-    ensures { option_map (λ k. reply_with k effect.now) result ≡ reply_at call.now stage effect.now }
+    ensures { option_map (λ k. reply_with k effect.now) result
+        ≡ reply_at call.now stage effect.now }
 {
     match stage {
         Stage::Releases => match effect {

@@ -12,7 +12,7 @@ use std::thread::Threads;
 /// How many messages each native sends: 10,000 hand-overs in all.
 const ROUNDS: u64 = 5_000;
 
-/// The longest delay, in additions to a word: about a millisecond, where an idle CPU parks after some half of one.
+/// The longest delay, in additions to a word: about a millisecond, where an idle CPU parks within a tenth of one.
 const LONGEST: u64 = 100_000;
 
 /// A native that sends to one buffer and receives from the other, in turns.

@@ -13,6 +13,8 @@ mod calls;
 mod counts;
 mod handovers;
 mod locks;
+mod monitor_calls;
+mod monitors;
 mod natives;
 mod openings;
 mod owned_words;

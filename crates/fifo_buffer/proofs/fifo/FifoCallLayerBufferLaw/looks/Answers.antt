@@ -1,5 +1,4 @@
-use Rattle.std.proofs.Common.{refl}
-use Rattle.layer_traits.specs.Polling.PollRuns.{LookedOn}
+use Rattle.{std.proofs.Common.refl, layer_traits.specs.Polling.PollRuns.LookedOn}
 use Rattle.fifo_buffer.proofs.fifo.FifoCallLayerBufferLaw.looks.Goals as goal
 
 pub returns-then-taken-most-clause-looked_on : goal.returns-then-taken-most-clause-looked_on
