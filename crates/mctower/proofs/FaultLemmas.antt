@@ -1,7 +1,6 @@
 -- Facts on what is wrong with the words of a command line.
-use Rattle.std.proofs.Common.{◌≡◌, ◌≢◌, ◌∙◌, ◌<◌, ℕ, Bool, true, false, List, Option, Some, None, refl, sym, subst, ap, option_map, arith}
-use Rattle.std.proofs.{Common.{get_or, length, lit≤}, lemmas.{Bool.leb-true, List.{Elements.All-from_recursion, get_or-take, length-take}}}
-use Rattle.std.{proofs.lemmas.List.Sums.fails_before_first, specs.Prelude.All}
+use Rattle.std.proofs.Common.{◌≡◌, ◌≢◌, ◌∙◌, ◌<◌, ℕ, Bool, true, false, List, Option, Some, None, refl, sym, subst, ap, option_map, arith, get_or, length, lit≤}
+use Rattle.std.{proofs.lemmas.{Bool.leb-true, List.{Elements.All-from_recursion, get_or-take, length-take, Sums.fails_before_first}}, specs.Prelude.All}
 use Rattle.std.specs.{Prelude.{codes, if◌then◌else◌, nat_le, unwrap_or}, Borrow.Bor, List.{before_first, position_or_len}}
 use Rattle.mctower.specs.{Faults.IsShown, Print.{is_line_feed, shown_line}}
 

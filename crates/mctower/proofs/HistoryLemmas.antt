@@ -1,16 +1,15 @@
 -- What is printed is a history: its order is one of the traces, each of which holds the calls of
 -- its CPU's home threads.
-use Rattle.std.proofs.Common.{◌≡◌, ◌⊎◌, inl, inr, ℕ, zero, suc, ◌<◌, ◌==◌, Bool, true, false, List, [], ◌∷◌, length, map, set, Option, Some, None, option_map}
-use Rattle.std.proofs.{Common.{refl, ap, sym, ◌∙◌, subst, arith}, lemmas.{Bool.{cases_eq, eqb-true, eq-eqb}, Option.{get_or_from_slice_get, slice_get_within}}}
-use Rattle.std.{proofs.lemmas.Option.slice_get-get_or, specs.{Prelude.{Result, filter, slice_get, slice_index_or}, List.AllByRecursion}}
+use Rattle.std.proofs.Common.{◌≡◌, inl, inr, ℕ, zero, suc, ◌<◌, ◌==◌, Bool, true, false, List, [], ◌∷◌, length, map, set, Option, Some, None, option_map, refl}
+use Rattle.std.proofs.{Common.{ap, sym, ◌∙◌, subst}, lemmas.{Bool.{cases_eq, eqb-true}, Option.{get_or_from_slice_get, slice_get_within, slice_get-get_or}}}
+use Rattle.std.specs.{Prelude.{Result, slice_get, slice_index_or}, List.AllByRecursion}
 use Rattle.event_log.{specs.{declared.{entries.Entry.Entry, ids.{CpuId.CpuId, Tid.Tid}}, Messages.Message, Traces.IsInterleaving}, proofs.Streams.taken_put}
-use Rattle.{guest.specs.{declared.instructions.Instruction.Instruction, Calls.{AreProgramsCalls, made_none}, State.at_start}}
-use Rattle.layer_traits.specs.Threads.{OnePlace.cpu_at, Places.home_of}
-use Rattle.boot.specs.Plan.{BootPlan, Task, plan_home_of, plan_program_of}
-use Rattle.cpu.specs.{declared.guests.Guest.Guest, Boots.{guests_for, homes_for, tables_for}, Claims.{CpuShown, Shown, programs_in, traces_of}}
-use Rattle.cpu.specs.{Cpus.{IsOfHome, guest_at, of_thread, programs_of}, Sound.setup_for, Table.Setups.{program_of, program_or}}
+use Rattle.guest.specs.{declared.instructions.Instruction.Instruction, Calls.{AreProgramsCalls, made_none}, State.at_start}
+use Rattle.{layer_traits.specs.Threads.{OnePlace.cpu_at, Places.home_of}, boot.specs.Plan.{BootPlan, Task, plan_home_of, plan_program_of}}
+use Rattle.cpu.specs.{declared.guests.Guest.Guest, Boots.{guests_for, homes_for, tables_for}, Claims.{CpuShown, Shown, programs_in, traces_of}, Cpus.IsOfHome}
+use Rattle.cpu.specs.{Cpus.{guest_at, of_thread, programs_of}, Sound.setup_for, Table.Setups.{program_of, program_or}}
 use Rattle.cpu.proofs.{ListFacts.ListReads.{listed_length, listed_there, set_else, set_there, shown_at, shows_at}, WholeSystems.PlanGuests.guest_home}
-use Rattle.cpu_workers.specs.{declared.workers.stops.Stop.Stop, Lawful.{CpuReport, IsLawfulReport, ReportsTrue, ShownReport, left_in}}
+use Rattle.cpu_workers.specs.{declared.workers.stops.Stop.Stop, Lawful.{CpuReport, ReportsTrue, ShownReport, left_in}}
 use Rattle.mctower.specs.{declared.{refusals.Refusal.Refusal, serve.outcomes.Done.Done}, Histories.{IsHistoryText, TextsAreHistories}, Output.Output}
 use Rattle.mctower.{specs.{Serve.RunsTrace, Texts.IsTextOf, Threads.{AlwaysOpen, IsWorkedPlan}}, proofs.OrderNumbers.order_all}
 

@@ -11,3 +11,4 @@ mod ThreadsAreRuns
 mod ThreadsLemmas
 mod Unguarded
 pub mod HistoryLemmas
+pub mod TopLemmas

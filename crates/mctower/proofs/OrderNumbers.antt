@@ -4,10 +4,9 @@ use Rattle.std.proofs.Common.{◌≡◌, ℕ, zero, suc, ◌+◌, ◌<◌, ◌�
 use Rattle.std.proofs.lemmas.{Bool.cases_eq, List.{length-map, length-set, length_push, Sums.count_by-le-length}, Option.slice_get_within}
 use Rattle.std.specs.{Prelude.{slice_get, ◌==◌, ◌&&◌}, List.AllByRecursion}
 use Rattle.event_log.specs.declared.{ids.TheConstants.{CPUS, ENTRIES, THREADS}, entries.{Entry.Entry, Kind.{Kind, TheVariants.{Send, Recv, Close, RecvClosed}}}}
-use Rattle.event_log.specs.Runs.{kind_eq, IsNext}
-use Rattle.event_log.specs.{Runs.{IsRunFrom, after_entry}, Traces.IsInterleaving, Buffers.{IsAllowedEffect, items_of, empty_buffers, after_effect}}
-use Rattle.{event_log.specs.Messages.{IsMessage, Message}, tracer.specs.TraceText.{IsEntryOf, IsValueOf}, event_log.proofs.ListLemmas.{set_else, set_there}}
-use Rattle.cpu.{specs.Claims.{HasOneOrder, Shown}, proofs.ListFacts.ListReads.all_both}
+use Rattle.event_log.specs.{Runs.{kind_eq, IsNext, IsRunFrom, after_entry}, Traces.IsInterleaving, Buffers.{IsAllowedEffect, items_of, empty_buffers}}
+use Rattle.{event_log.{specs.{Buffers.after_effect, Messages.{IsMessage, Message}}, proofs.ListLemmas.{set_else, set_there}}, tracer.specs.TraceText.IsEntryOf}
+use Rattle.{tracer.specs.TraceText.IsValueOf, cpu.{specs.Claims.{HasOneOrder, Shown}, proofs.ListFacts.ListReads.all_both}}
 
 -- what holds of the entries of all traces holds of the entries of an order
 pub order_all : (P : Entry → Type 0) (traces : List (List Entry)) (order : List Entry)

@@ -4,11 +4,10 @@ use Rattle.std.specs.{Prelude.{Result, Ok, Err, Vec, slice_get, if◌then◌else
 use Rattle.event_log.{specs.{declared.entries.Entry.Entry, Buffers.empty_buffers}, proofs.{Streams.taken_put, RunLemmas.op_order_from, BoolLemmas.refuted}}
 use Rattle.{layer_traits.specs.Threads.OnePlace.cpu_at, boot.specs.{declared.refusals.BootError.BootError, Plan.{BootPlan, IsPlan}}, tracer.specs.Sinks.Outs}
 use Rattle.{tracer.proofs.OrderLemmas.orders_agree, cpu.specs.Sound.setup_for, cpu_workers.specs.{declared.workers.stops.Stop.Stop, Lawful.IsLawfulReport}}
-use Rattle.{cpu_workers.specs.Lawful.{CpuReport, ShownReport, ReportsTrue, left_in}, mctower.specs.declared.refusals.Refusal.{Refusal, TheVariants.WriteFault}}
-use Rattle.mctower.specs.{declared.{run.run_faults.Fault.Fault, serve.outcomes.Done.{Done, TheVariants.Worked}}, Output.Output, Refusals.from_fault}
-use Rattle.mctower.specs.{Refusals.lacks_memory, Serve.{OfPlan, RefusedBy, WorksPlan}, Texts.{HaveText, IsOut, IsTextOf, Writes}, Threads.IsWorkedPlan}
-use Rattle.mctower.{specs.Threads.AlwaysOpen, proofs.{RunningLemmas.all_put, ThreadsAreRuns.printed_by_run}}
-use Rattle.cpu_workers.specs.Logs.{HasWords}
+use Rattle.{cpu_workers.specs.{Lawful.{CpuReport, ShownReport, ReportsTrue, left_in}, Logs.HasWords}, mctower.specs.declared.refusals.Refusal.Refusal}
+use Rattle.mctower.specs.declared.{refusals.Refusal.TheVariants.WriteFault, run.run_faults.Fault.Fault, serve.outcomes.Done.{Done, TheVariants.Worked}}
+use Rattle.mctower.specs.{Output.Output, Refusals.{from_fault, lacks_memory}, Serve.{OfPlan, RefusedBy, WorksPlan}, Texts.{HaveText, IsOut, IsTextOf, Writes}}
+use Rattle.mctower.{specs.Threads.{IsWorkedPlan, AlwaysOpen}, proofs.{RunningLemmas.all_put, ThreadsAreRuns.printed_by_run}}
 use Rattle.mctower.specs.declared.run.run_faults.Fault.TheVariants as run
 
 -- what holds for a plan that was read

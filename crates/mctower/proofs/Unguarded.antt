@@ -2,10 +2,9 @@
 -- whose polls are single actions holds without a condition if they are such layers.
 use Rattle.std.{proofs.Common.{◌≡◌, List, refl}, specs.Prelude.{Result, Ok, Err, IsErrAnd}}
 use Rattle.{event_log.specs.declared.{ids.CpuId.CpuId, refusals.NoMemory.NoMemory as NoMemoryTold}, boot.specs.declared.refusals.BootError.BootError}
-use Rattle.{boot.specs.Plan.{BootPlan, Fails}, cpu.specs.{Claims.Shown, Systems.{Ran, WentOn, goes, took_none, stayed}}}
-use Rattle.{cpu.specs.Systems.took, mctower.specs.declared.run.run_faults.Fault.{Fault, TheVariants.{NoMemory, WriteFault}}}
-use Rattle.mctower.specs.{declared.tell.state_lines.State.State, Output.{IsUntouched, Output}, Plans.from_boot, Running.{IsPrinted, IsRunOf, NoCondition}}
-use Rattle.mctower.specs.{Running.{RunsOverTower, RunsPlan, RunsTextOn}, State.IsStateOf}
+use Rattle.{boot.specs.Plan.{BootPlan, Fails}, cpu.specs.{Claims.Shown, Systems.{Ran, WentOn, goes, took_none, stayed, took}}}
+use Rattle.mctower.specs.{declared.{run.run_faults.Fault.{Fault, TheVariants.{NoMemory, WriteFault}}, tell.state_lines.State.State}, Output.IsUntouched}
+use Rattle.mctower.specs.{Output.Output, Plans.from_boot, Running.{IsPrinted, IsRunOf, NoCondition, RunsOverTower, RunsPlan, RunsTextOn}, State.IsStateOf}
 use Rattle.boot.specs.declared.refusals.BootError.TheVariants as refused
 
 module _ (If Where : Type 0) (follows : Where → If) where

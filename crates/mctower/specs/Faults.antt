@@ -1,14 +1,26 @@
 -- Why the words of a command line make no order, and the lines that report it.
-use Rattle.std.specs.Prelude.{◌≡◌, ◌≢◌, ◌≤◌, ◌++◌, ◌||◌, All, Bool, false, true, List, [], ◌∷◌, Option, Some, Result, Ok, Err, IfSome, IsSomeAnd, codes}
-use Rattle.std.specs.{Prelude.{bytes_eq, decimal, if◌then◌else◌, length, unwrap_or}, List.find, Option.is_none}
-use Rattle.clap.specs.{Kinds.IsAmong, Walk.{Row, Text, first_of}, declared.error.kind.ErrorKind.{ErrorKind, TheVariants.{UnknownArgument, InvalidSubcommand}}}
-use Rattle.clap.specs.declared.error.kind.ErrorKind.TheVariants.{MissingRequiredArgument, ArgumentConflict, InvalidValue, TooManyValues, DisplayHelp}
-use Rattle.{clap.specs.declared.error.kind.ErrorKind.TheVariants.{DisplayVersion, OutOfMemory}, event_log.specs.declared.ids.TheConstants.CPUS}
-use Rattle.{event_log.specs.declared.refusals.NoMemory.NoMemory, mctower.specs.{Help.{topic_of, usage_of}, Line.{faults_of, found_in, is_taken, lock_asked}}}
-use Rattle.mctower.specs.{Line.option_number, Print.shown_line, declared.{line.TheConstants.{MOST_TIMES, MOST_TURNS}, refusals.line_faults.NoOrder.NoOrder}}
-use Rattle.mctower.specs.declared.refusals.line_faults.{NoOrder.TheVariants.{AsksHelp, AsksVersion, Faulty}, LineFault.{LineFault, TheVariants.NotText}}
-use Rattle.mctower.specs.declared.refusals.line_faults.{LineFault.TheVariants.{NoCommand, Words, Value}, ValueOption.{ValueOption, TheVariants.{Cpus, Times}}}
-use Rattle.mctower.specs.declared.refusals.line_faults.ValueOption.TheVariants.{Lock, Turns}
+use Rattle.std.specs.Prelude.{◌≡◌, ◌≢◌, ◌≤◌, ◌++◌, ◌||◌, All, Bool, false, true, List, [], ◌∷◌}
+use Rattle.std.specs.Prelude.{Option, Some, Result, Ok, Err, IfSome, IsSomeAnd, codes, bytes_eq}
+use Rattle.std.specs.{Prelude.{decimal, if◌then◌else◌, length, unwrap_or}, List.find}
+use Rattle.std.specs.Option.{is_none}
+use Rattle.clap.specs.{Kinds.IsAmong, Walk.{Row, Text, first_of}}
+use Rattle.clap.specs.declared.error.kind.ErrorKind.{ErrorKind, TheVariants.UnknownArgument}
+use Rattle.clap.specs.declared.error.kind.ErrorKind.TheVariants.{InvalidSubcommand}
+use Rattle.clap.specs.declared.error.kind.ErrorKind.TheVariants.{MissingRequiredArgument}
+use Rattle.clap.specs.declared.error.kind.ErrorKind.TheVariants.{ArgumentConflict, InvalidValue}
+use Rattle.clap.specs.declared.error.kind.ErrorKind.TheVariants.{TooManyValues, DisplayHelp}
+use Rattle.clap.specs.declared.error.kind.ErrorKind.TheVariants.{DisplayVersion, OutOfMemory}
+use Rattle.event_log.specs.declared.{ids.TheConstants.CPUS, refusals.NoMemory.NoMemory}
+use Rattle.mctower.specs.{Help.{topic_of, usage_of}, Line.{faults_of, found_in, is_taken}}
+use Rattle.mctower.specs.{Line.{lock_asked, option_number}, Print.shown_line}
+use Rattle.mctower.specs.declared.line.TheConstants.{MOST_TIMES, MOST_TURNS}
+use Rattle.mctower.specs.declared.refusals.line_faults.NoOrder.{NoOrder, TheVariants.AsksHelp}
+use Rattle.mctower.specs.declared.refusals.line_faults.NoOrder.TheVariants.{AsksVersion, Faulty}
+use Rattle.mctower.specs.declared.refusals.line_faults.LineFault.{LineFault, TheVariants.NotText}
+use Rattle.mctower.specs.declared.refusals.line_faults.LineFault.TheVariants.{NoCommand, Words}
+use Rattle.mctower.specs.declared.refusals.line_faults.LineFault.TheVariants.{Value}
+use Rattle.mctower.specs.declared.refusals.line_faults.ValueOption.{ValueOption, TheVariants.Cpus}
+use Rattle.mctower.specs.declared.refusals.line_faults.ValueOption.TheVariants.{Times, Lock, Turns}
 
 -- ---- options with a value to be tested
 
@@ -50,13 +62,17 @@ value_at option rows = unwrap_or (first_of (option_name option) rows) []
 
 -- the name is one of the four commands'
 abbrev pub is_command : Text → Bool
-is_command name = bytes_eq name (codes "count") || (bytes_eq name (codes "run") || (bytes_eq name (codes "threads") || bytes_eq name (codes "check")))
+is_command name =
+    bytes_eq name (codes "count")
+    || (bytes_eq name (codes "run")
+    || (bytes_eq name (codes "threads") || bytes_eq name (codes "check")))
 
 -- This is wrong with a command, according to its name and its values. No command has the name, or
 -- an option is the first with a value that it does not take.
 abbrev pub IsFaultIn : Text × List Row → LineFault → Type 0
 IsFaultIn found NoCommand = is_command found.0 ≡ false
-IsFaultIn found (Value option shown) = (first_bad found ≡ Some option) × (shown.bytes ≡ shown_line (value_at option found.1))
+IsFaultIn found (Value option shown) =
+    (first_bad found ≡ Some option) × (shown.bytes ≡ shown_line (value_at option found.1))
 IsFaultIn found fault = ⊥
 
 -- a text as it may be shown in a line: at most 200 bytes, none of them a line feed
@@ -67,9 +83,14 @@ IsShown text = (length text ≤ 200) × All (λ byte. byte ≢ 10) text
 -- for help or the version, and what clap names fits in a line. Or they find none, and no command is
 -- named, or the value of an option is the first that it does not take.
 abbrev pub IsFault : List Text → LineFault → Type 0
-IsFault words (Words kind named) = IsAmong kind (faults_of words) × (kind ≢ DisplayHelp) × (kind ≢ DisplayVersion) × IsShown named.bytes
-IsFault words NoCommand = (is_taken words ≡ true) × IfSome (found_in words) (λ found. is_command found.0 ≡ false)
-IsFault words (Value option shown) = (is_taken words ≡ true) × IsSomeAnd (found_in words) (λ found. IsFaultIn found (Value option shown))
+IsFault words (Words kind named) =
+    IsAmong kind (faults_of words) × (kind ≢ DisplayHelp) × (kind ≢ DisplayVersion)
+    × IsShown named.bytes
+IsFault words NoCommand =
+    (is_taken words ≡ true) × IfSome (found_in words) (λ found. is_command found.0 ≡ false)
+IsFault words (Value option shown) =
+    (is_taken words ≡ true)
+    × IsSomeAnd (found_in words) (λ found. IsFaultIn found (Value option shown))
 IsFault words NotText = ⊥
 
 -- the words ask for help, or for the version, by clap's rules; or this is wrong with them
@@ -88,7 +109,8 @@ abbrev pub TellsKind : ErrorKind → Result NoOrder NoMemory → Type 0
 TellsKind kind (Ok AsksHelp) = kind ≡ DisplayHelp
 TellsKind kind (Ok AsksVersion) = kind ≡ DisplayVersion
 TellsKind kind (Ok (Faulty (Words told named))) =
-    (kind ≡ told) × (kind ≢ OutOfMemory) × (kind ≢ DisplayHelp) × (kind ≢ DisplayVersion) × IsShown named.bytes
+    (kind ≡ told) × (kind ≢ OutOfMemory) × (kind ≢ DisplayHelp) × (kind ≢ DisplayVersion)
+    × IsShown named.bytes
 TellsKind kind (Ok (Faulty fault)) = ⊥
 TellsKind kind (Err refused) = Unit {0}
 
@@ -106,13 +128,16 @@ kind_words kind = codes "the words are no command line"
 
 -- a line with what is wrong and what it names, and two lines of usage of the words' command
 abbrev pub fault_lines : List Text → Text → Text → Text
-fault_lines words what named = codes "error: " ++ (what ++ (named ++ (10 ∷ usage_of (topic_of words))))
+fault_lines words what named =
+    codes "error: " ++ (what ++ (named ++ (10 ∷ usage_of (topic_of words))))
 
 -- a line with an option, its value and what is expected there, and two lines of usage of the words'
 -- command
 abbrev pub value_lines : List Text → ValueOption → Text → Text
 value_lines words option value =
-    codes "error: --" ++ (option_name option ++ (32 ∷ (value ++ (codes ": expected " ++ (expected_of option ++ (10 ∷ usage_of (topic_of words)))))))
+    codes "error: --" ++ (option_name option
+    ++ (32 ∷ (value ++ (codes ": expected "
+    ++ (expected_of option ++ (10 ∷ usage_of (topic_of words)))))))
 
 -- the whole text that reports what is wrong with the words; what clap names is shown as it names it
 abbrev pub fault_text : List Text → LineFault → Text

@@ -1,6 +1,8 @@
 -- Which help and which usage the words of a command line get.
 use Rattle.std.specs.Prelude.{ℕ, List, [], ◌∷◌, codes, bytes_eq, if◌then◌else◌}
-use Rattle.mctower.specs.declared.line.help_texts.TheConstants.{PROGRAM, COUNT, RUN, THREADS, CHECK, PROGRAM_USAGE, COUNT_USAGE, RUN_USAGE, THREADS_USAGE}
+use Rattle.mctower.specs.declared.line.help_texts.TheConstants.{PROGRAM, COUNT, RUN, THREADS, CHECK}
+use Rattle.mctower.specs.declared.line.help_texts.TheConstants.{PROGRAM_USAGE, COUNT_USAGE}
+use Rattle.mctower.specs.declared.line.help_texts.TheConstants.{RUN_USAGE, THREADS_USAGE}
 use Rattle.mctower.specs.declared.line.help_texts.TheConstants.{CHECK_USAGE}
 
 -- the command that the words name: the first word, or the one after `help`

@@ -16,3 +16,4 @@ pub mod State
 pub mod Tabled
 pub mod Refusals
 pub mod Histories
+pub mod ByTable

@@ -1,11 +1,18 @@
 -- The command line: which order the words after the program's name mean, by clap's reading of them.
-use Rattle.std.specs.Prelude.{◌≡◌, ℕ, Bool, true, false, List, [], ◌∷◌, codes, Option, Some, None, Result, Ok, Err, option_map, option_and_then, if◌then◌else◌}
-use Rattle.{std.specs.{Prelude.string_bytes, Str.{bytes_eq, Parse.{digits_value, without_leading_plus}}}, clap.specs.Walk.{Row, Rule, Text, first_of}}
-use Rattle.clap.specs.{ValueTests.is_unsigned_in, Simple.{App, Shape, new_app, new_rule, on_top, subcommand_of, with_rule, with_subcommand, subcommand_rows_of}}
-use Rattle.clap.specs.{declared.{error.Error.Error, parser.matches.ArgMatches.ArgMatches}, Faults.fault_of, Kinds.{HasKind, Kinds}}
-use Rattle.{boot.specs.{declared.locks.LockKind.{LockKind, TheVariants.Grant}, Locks.lock_named}, event_log.specs.declared.ids.TheConstants.CPUS}
-use Rattle.mctower.specs.declared.line.{TheConstants.{MOST_TIMES, MOST_TURNS}, Order.{Order, TheVariants.{Count, Run, Threads, Check}}, LineError.LineError}
-use Rattle.mctower.specs.declared.line.LineError.TheVariants.{NoMemory, Refused}
+use Rattle.std.specs.Prelude.{◌≡◌, ℕ, Bool, true, false, List, [], ◌∷◌, codes, Option, Some, None}
+use Rattle.std.specs.Prelude.{Result, Ok, Err, option_map, option_and_then, if◌then◌else◌}
+use Rattle.std.specs.{Prelude.string_bytes, Str.{bytes_eq, Parse.digits_value}}
+use Rattle.std.specs.Str.Parse.{without_leading_plus}
+use Rattle.clap.specs.{Walk.{Row, Rule, Text, first_of}, ValueTests.is_unsigned_in, Simple.App}
+use Rattle.clap.specs.Simple.{Shape, new_app, new_rule, on_top, subcommand_of, with_rule}
+use Rattle.clap.specs.{Simple.{with_subcommand, subcommand_rows_of}, declared.error.Error.Error}
+use Rattle.clap.specs.{declared.parser.matches.ArgMatches.ArgMatches, Faults.fault_of}
+use Rattle.{clap.specs.Kinds.{HasKind, Kinds}, boot.specs.declared.locks.LockKind.LockKind}
+use Rattle.boot.specs.{declared.locks.LockKind.TheVariants.Grant, Locks.lock_named}
+use Rattle.event_log.specs.declared.ids.TheConstants.{CPUS}
+use Rattle.mctower.specs.declared.line.{TheConstants.{MOST_TIMES, MOST_TURNS}, Order.Order}
+use Rattle.mctower.specs.declared.line.Order.TheVariants.{Count, Run, Threads, Check}
+use Rattle.mctower.specs.declared.line.LineError.{LineError, TheVariants.{NoMemory, Refused}}
 
 -- ---- the commands and their options
 
@@ -19,7 +26,9 @@ optional name = record (new_rule name) { long = Some name }
 
 -- `count --cpus n --times k [--lock L]`
 abbrev pub count_app : App
-count_app = with_rule (with_rule (with_rule (new_app (codes "count")) (required_option (codes "cpus"))) (required_option (codes "times")))
+count_app =
+    with_rule (with_rule (with_rule (new_app (codes "count")) (required_option (codes "cpus")))
+    (required_option (codes "times")))
     (optional (codes "lock"))
 
 -- `run [--schedule S]`
@@ -48,7 +57,10 @@ bare_program = on_top with_version (on_top without_binary_name (new_app (codes "
 
 -- the program with its four commands
 unfoldable pub program : App
-program = with_subcommand (with_subcommand (with_subcommand (with_subcommand bare_program count_app.top) run_app.top) threads_app.top) check_app.top
+program =
+    with_subcommand (with_subcommand
+    (with_subcommand (with_subcommand bare_program count_app.top) run_app.top) threads_app.top)
+    check_app.top
 
 -- ---- the order that the words mean
 
@@ -62,7 +74,9 @@ pub data Ghost : Type 0 where
 -- the number that a text spells by clap's rules (with or without a plus sign and leading zeros), in
 -- this range
 abbrev pub number_in : ℕ → ℕ → Text → Option ℕ
-number_in least most text = if is_unsigned_in least most text then Some (digits_value 10 (without_leading_plus text)) else None
+number_in least most text =
+    if is_unsigned_in least most text then Some (digits_value 10 (without_leading_plus text))
+    else None
 
 -- the number that the option of this name has, in this range
 abbrev pub option_number : ℕ → ℕ → Text → List Row → Option ℕ
@@ -76,8 +90,10 @@ lock_asked (Some name) = lock_named name
 -- the order of the command `count` with these values: 1 to CPUS CPUs, 1 to MOST_TIMES sections for
 -- each, and the lock
 abbrev pub count_meant : List Row → Option Ghost
-count_meant rows = option_and_then (λ cpus. option_and_then (λ times. option_map (λ lock. count cpus times lock)
-    (lock_asked (first_of (codes "lock") rows))) (option_number 1 MOST_TIMES (codes "times") rows)) (option_number 1 CPUS (codes "cpus") rows)
+count_meant rows =
+    option_and_then (λ cpus. option_and_then (λ times. option_map (λ lock. count cpus times lock)
+    (lock_asked (first_of (codes "lock") rows))) (option_number 1 MOST_TIMES (codes "times") rows))
+    (option_number 1 CPUS (codes "cpus") rows)
 
 -- the order of the command `run` with these values
 abbrev pub run_in : List Row → Option Ghost
@@ -85,7 +101,8 @@ run_in rows = Some (run (first_of (codes "schedule") rows))
 
 -- the order of the command `threads` with these values: 1 to MOST_TURNS turns
 abbrev pub threads_meant : List Row → Option Ghost
-threads_meant rows = option_map (λ turns. threads turns) (option_number 1 MOST_TURNS (codes "turns") rows)
+threads_meant rows =
+    option_map (λ turns. threads turns) (option_number 1 MOST_TURNS (codes "turns") rows)
 
 -- the order of a command by its name and its values
 abbrev pub order_in : Text × List Row → Option Ghost

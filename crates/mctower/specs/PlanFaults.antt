@@ -1,9 +1,13 @@
 -- The line that reports why a plan is rejected: the error's name and number, and where in the plan
 -- it is.
 use Rattle.std.specs.Prelude.{ℕ, List, [], ◌∷◌, ◌++◌, codes, decimal}
-use Rattle.{event_log.specs.declared.ids.Tid.Tid, guest.specs.declared.refusals.GuestFault.{GuestFault, TheVariants.{UnknownWord, BadRegister, BadNumber}}}
-use Rattle.{guest.specs.declared.refusals.GuestFault.TheVariants.{BadTarget, TooLong, Empty}, boot.specs.Names.key_name}
-use Rattle.boot.specs.declared.refusals.{BootError.{BootError, TheVariants.{NoMemory, BadToml, MissingKey, OutOfRange, Guest}}, PlanKey.PlanKey}
+use Rattle.event_log.specs.declared.ids.Tid.{Tid}
+use Rattle.guest.specs.declared.refusals.GuestFault.{GuestFault, TheVariants.UnknownWord}
+use Rattle.guest.specs.declared.refusals.GuestFault.TheVariants.{BadRegister, BadNumber, BadTarget}
+use Rattle.guest.specs.declared.refusals.GuestFault.TheVariants.{TooLong, Empty}
+use Rattle.boot.specs.{Names.key_name, declared.refusals.BootError.BootError}
+use Rattle.boot.specs.declared.refusals.BootError.TheVariants.{NoMemory, BadToml, MissingKey}
+use Rattle.boot.specs.declared.refusals.{BootError.TheVariants.{OutOfRange, Guest}, PlanKey.PlanKey}
 
 -- the name and the number of what is wrong with a line of a program
 abbrev pub fault_name : GuestFault → List ℕ
@@ -21,7 +25,9 @@ key_line name key = codes "error: " ++ (name ++ (key_name key ++ 10 ∷ []))
 -- the line of what is wrong with a line of this thread's program, counted from 0
 abbrev pub guest_line : Tid → ℕ → GuestFault → List ℕ
 guest_line thread line fault =
-    codes "error: Guest(23) thread " ++ (decimal thread.0 ++ (codes " line " ++ (decimal line ++ (32 ∷ (fault_name fault ++ 10 ∷ [])))))
+    codes "error: Guest(23) thread "
+    ++ (decimal thread.0 ++ (codes " line "
+    ++ (decimal line ++ (32 ∷ (fault_name fault ++ 10 ∷ [])))))
 
 -- the line of what is wrong with a plan
 abbrev pub plan_line : BootError → List ℕ

@@ -1,9 +1,12 @@
 -- The system of a plan, and what its steps leave as the plan has it.
 use Rattle.std.specs.Prelude.{◌≡◌, ℕ, List, length, map, replicate}
-use Rattle.{event_log.specs.declared.ids.CpuId.CpuId, boot.specs.{declared.refusals.BootError.BootError, Plan.{BootPlan, IsPlan}}}
-use Rattle.{tracer.specs.declared.gathering.GatherError.GatherError, cpu.specs.{Boots.{homes_for, tables_for}, Cpus.programs_of, Claims.{Shown, programs_in}}}
-use Rattle.{cpu.specs.{Sound.{after_steps, setup_for}, Table.Steps.{Whole, whole_at_boot}}, mctower.specs.declared.run.run_faults.Fault.Fault}
-use Rattle.mctower.specs.declared.run.run_faults.Fault.TheVariants.{NoMemory, Boot, NoOrder}
+use Rattle.event_log.specs.declared.ids.CpuId.{CpuId}
+use Rattle.boot.specs.{declared.refusals.BootError.BootError, Plan.{BootPlan, IsPlan}}
+use Rattle.{tracer.specs.declared.gathering.GatherError.GatherError, cpu.specs.Boots.homes_for}
+use Rattle.cpu.specs.{Boots.tables_for, Cpus.programs_of, Claims.{Shown, programs_in}}
+use Rattle.cpu.specs.{Sound.{after_steps, setup_for}, Table.Steps.{Whole, whole_at_boot}}
+use Rattle.mctower.specs.declared.run.run_faults.Fault.{Fault, TheVariants.{NoMemory, Boot}}
+use Rattle.mctower.specs.declared.run.run_faults.Fault.TheVariants.{NoOrder}
 use Rattle.boot.specs.declared.refusals.BootError.TheVariants as refused
 use Rattle.tracer.specs.declared.gathering.GatherError.TheVariants as gathering
 
@@ -19,7 +22,8 @@ pub record IsSystemOf (plan : BootPlan) (s : Shown) : Type 0 where
 -- the step table's system of a plan after these steps, one after the other from boot, with room for
 -- exactly these
 abbrev pub table_run : BootPlan → List CpuId → Whole
-table_run plan steps = after_steps (setup_for plan) steps (whole_at_boot (setup_for plan) (length steps))
+table_run plan steps =
+    after_steps (setup_for plan) steps (whole_at_boot (setup_for plan) (length steps))
 
 -- The system is the plan's before its first step, with room for so many steps. Each home CPU has
 -- its threads' guests, all at their start.

@@ -1,8 +1,12 @@
 -- Errors: which fault each is the error of, the exit status, and the text that reports it.
-use Rattle.{std.specs.Prelude.{ℕ, List, codes}, clap.specs.Walk.Text, event_log.specs.Refusals.no_memory, mctower.specs.{Faults.fault_text, Output.IsTold}}
-use Rattle.mctower.specs.{Output.Output, PlanFaults.plan_line, declared.refusals.Refusal.{Refusal, TheVariants.{BadLine, NoMemory, BadCpu, NoThread, NoOrder}}}
-use Rattle.mctower.specs.declared.{refusals.Refusal.TheVariants.{ReadFault, WriteFault, BadSchedule, Plan}, run.run_faults.Fault.Fault}
-use Rattle.{mctower.specs.declared.line.schedules.StepsError.StepsError, cpu_workers.specs.declared.refusals.WorkerError.WorkerError}
+use Rattle.{std.specs.Prelude.{ℕ, List, codes}, clap.specs.Walk.Text}
+use Rattle.{event_log.specs.Refusals.no_memory, mctower.specs.{Faults.fault_text, Output.IsTold}}
+use Rattle.mctower.specs.{Output.Output, PlanFaults.plan_line, declared.refusals.Refusal.Refusal}
+use Rattle.mctower.specs.declared.refusals.Refusal.TheVariants.{BadLine, NoMemory, BadCpu, NoThread}
+use Rattle.mctower.specs.declared.refusals.Refusal.TheVariants.{NoOrder, ReadFault, WriteFault}
+use Rattle.mctower.specs.declared.refusals.Refusal.TheVariants.{BadSchedule, Plan}
+use Rattle.mctower.specs.declared.{run.run_faults.Fault.Fault, line.schedules.StepsError.StepsError}
+use Rattle.cpu_workers.specs.declared.refusals.WorkerError.{WorkerError}
 use Rattle.mctower.specs.declared.run.run_faults.Fault.TheVariants as run
 use Rattle.mctower.specs.declared.line.schedules.StepsError.TheVariants as steps
 use Rattle.cpu_workers.specs.declared.refusals.WorkerError.TheVariants as worker

@@ -1,12 +1,18 @@
 -- Running a plan: the system that a schedule leaves over the lock that the plan names, its trace
 -- text, and the result of a run.
 use Rattle.std.specs.Prelude.{◌≡◌, ℕ, ◌<◌, true, false, List, length, All, Result, Ok, Err}
-use Rattle.{event_log.specs.{declared.ids.CpuId.CpuId, Streams.IsFirstInFirstOut}, boot.specs.declared.{locks.LockKind.LockKind, refusals.BootError.BootError}}
-use Rattle.{boot.specs.Plan.BootPlan, cpu.specs.{Linear.IsLinearizable, Claims.{FollowPrograms, HasOneOrder, Shown, StandsOnce, StayHome, traces_of}}}
-use Rattle.{cpu.specs.{Sound.{IsSetupFor, SoundByTable, setup_for}, Systems.{Ran, whole_of}, Observed.ObservedByTable}, tracer.specs.Gather.on_buffer}
-use Rattle.mctower.specs.declared.run.{run_faults.Fault.{Fault, TheVariants.{NoMemory, Boot, BadCpu, NoOrder, WriteFault}}, Ran.Ran as RanOver}
-use Rattle.mctower.specs.{declared.{run.Ran.TheVariants.{Ticket, Grant}, tell.state_lines.State.State}, Output.{IsUntouched, Output}, Plans.IsOpened}
-use Rattle.mctower.specs.{Plans.{IsSystemOf, table_run}, State.IsStateOf, Tabled.IsTextOfRun, Texts.IsOut}
+use Rattle.event_log.specs.{declared.ids.CpuId.CpuId, Streams.IsFirstInFirstOut}
+use Rattle.boot.specs.declared.{locks.LockKind.LockKind, refusals.BootError.BootError}
+use Rattle.{boot.specs.Plan.BootPlan, cpu.specs.{Linear.IsLinearizable, Claims.FollowPrograms}}
+use Rattle.cpu.specs.Claims.{HasOneOrder, Shown, StandsOnce, StayHome, traces_of}
+use Rattle.cpu.specs.{Sound.{IsSetupFor, SoundByTable, setup_for}, Systems.{Ran, whole_of}}
+use Rattle.{cpu.specs.Observed.ObservedByTable, tracer.specs.Gather.on_buffer}
+use Rattle.mctower.specs.declared.run.run_faults.Fault.{Fault, TheVariants.{NoMemory, Boot, BadCpu}}
+use Rattle.mctower.specs.declared.run.run_faults.Fault.TheVariants.{NoOrder, WriteFault}
+use Rattle.mctower.specs.declared.run.Ran.{Ran as RanOver, TheVariants.{Ticket, Grant}}
+use Rattle.mctower.specs.{declared.tell.state_lines.State.State, Output.{IsUntouched, Output}}
+use Rattle.mctower.specs.{Plans.{IsOpened, IsSystemOf, table_run}, State.IsStateOf}
+use Rattle.mctower.specs.{Tabled.IsTextOfRun, Texts.IsOut}
 use Rattle.boot.specs.declared.locks.LockKind.TheVariants as kind
 
 -- The system of a plan, after a schedule's steps: it was opened with room for exactly these and
@@ -14,7 +20,8 @@ use Rattle.boot.specs.declared.locks.LockKind.TheVariants as kind
 -- one action a step, it is the step table's system of the plan after them, and no wake-up is lost.
 -- Its observers then return what the table has. The invariants that hold after every list of steps
 -- hold of it.
-pub record IsRunOf (IsStepwise : Type 0) (plan : BootPlan) (steps : List CpuId) (s : Shown) : Type 0 where
+pub record IsRunOf (IsStepwise : Type 0) (plan : BootPlan) (steps : List CpuId) (s : Shown) : Type
+    0 where
   pub start : Shown
   pub opened : IsOpened plan (length steps) start
   pub ran : Ran IsStepwise start steps s
@@ -39,7 +46,8 @@ AreCpus cpus steps = All (λ c. c.0 < cpus) steps
 -- what is left. If the machine does one action a step, this is the text of the step table's system
 -- of the plan after these steps. In the text's order the calls of each buffer are in the order in
 -- which they took effect.
-pub record IsPrinted (IsStepwise : Type 0) (plan : BootPlan) (steps : List CpuId) (s : Shown) (printed : Output) : Type 0 where
+pub record IsPrinted (IsStepwise : Type 0) (plan : BootPlan) (steps : List CpuId) (s : Shown)
+    (printed : Output) : Type 0 where
   pub cpus : AreCpus plan.cpus steps
   pub ran : IsRunOf IsStepwise plan steps s
   pub out : IsOut plan.caps (traces_of s) s.contents printed
@@ -50,12 +58,14 @@ pub record IsPrinted (IsStepwise : Type 0) (plan : BootPlan) (steps : List CpuId
 -- The result of a run of a plan. A step of a CPU that the plan does not have is rejected before
 -- anything is written. Else the plan's system takes the steps, and its text is written.
 abbrev pub RunsPlan : Type 0 → BootPlan → List CpuId → Result Shown Fault → Output → Type 0
-RunsPlan IsStepwise plan steps (Ok s) out = (out.failed ≡ false) × IsPrinted IsStepwise plan steps s out
+RunsPlan IsStepwise plan steps (Ok s) out =
+    (out.failed ≡ false) × IsPrinted IsStepwise plan steps s out
 RunsPlan IsStepwise plan steps (Err (NoMemory refused)) out = IsUntouched out
 RunsPlan IsStepwise plan steps (Err (Boot e)) out = ⊥
 RunsPlan IsStepwise plan steps (Err BadCpu) out = (¬ AreCpus plan.cpus steps) × IsUntouched out
 RunsPlan IsStepwise plan steps (Err NoOrder) out = ⊥
-RunsPlan IsStepwise plan steps (Err WriteFault) out = (out.failed ≡ true) × ((s : Shown) × IsPrinted IsStepwise plan steps s out)
+RunsPlan IsStepwise plan steps (Err WriteFault) out =
+    (out.failed ≡ true) × ((s : Shown) × IsPrinted IsStepwise plan steps s out)
 
 -- ---- of a plan's text
 
@@ -70,7 +80,8 @@ Refuses e (Err WriteFault) out = ⊥
 
 -- the result of a run of a text over these layers, by the text's plan or its first fault, unless
 -- memory ran out
-abbrev pub RunsTextOn : Type 0 → Result BootPlan BootError → List CpuId → Result Shown Fault → Output → Type 0
+abbrev pub RunsTextOn : Type 0 → Result BootPlan BootError → List CpuId → Result Shown Fault
+    → Output → Type 0
 RunsTextOn IsStepwise (Ok plan) steps result out = RunsPlan IsStepwise plan steps result out
 RunsTextOn IsStepwise (Err e) steps result out = Refuses e result out
 
@@ -104,8 +115,10 @@ IsOverLock lock (Err fault) = Unit {0}
 
 -- The result of a run of a text. The system runs over the lock that the plan names, and the run is
 -- one over the layers over that lock. A text that is no plan is rejected.
-abbrev pub RunsText : {I J M N : Type 0} → (LockKind → Type 0) → Result BootPlan BootError → List CpuId → Result (RanOver I J M N) Fault → Output → Type 0
-RunsText IsStepwise (Ok plan) steps result out = IsOverLock plan.lock result × RunsPlan (IsStepwise plan.lock) plan steps (system_in result) out
+abbrev pub RunsText : {I J M N : Type 0} → (LockKind → Type 0) → Result BootPlan BootError
+    → List CpuId → Result (RanOver I J M N) Fault → Output → Type 0
+RunsText IsStepwise (Ok plan) steps result out =
+    IsOverLock plan.lock result × RunsPlan (IsStepwise plan.lock) plan steps (system_in result) out
 RunsText IsStepwise (Err e) steps result out = Refuses e (system_in result) out
 
 -- what is said of layers of which each poll is one action holds of such layers without a condition
@@ -120,7 +133,8 @@ Tells (Err fault) (Ok state) = ⊥
 Tells (Err fault) (Err told) = told ≡ fault
 
 -- A text was run over layers of which each poll is one action, and this is reported of the result.
-pub record RunsOverTower (read : Result BootPlan BootError) (steps : List CpuId) (told : Result State Fault) (printed : Output) : Type 0 where
+pub record RunsOverTower (read : Result BootPlan BootError) (steps : List CpuId)
+    (told : Result State Fault) (printed : Output) : Type 0 where
   pub answer : Result Shown Fault
   pub runs : RunsTextOn NoCondition read steps answer printed
   pub tells : Tells answer told

@@ -1,8 +1,12 @@
 -- Schedules: the steps that a text denotes.
-use Rattle.std.specs.Prelude.{◌≡◌, ◌==◌, ◌++◌, ℕ, Bool, List, [], ◌∷◌, length, replicate, nat_lt, nat_le, Option, Some, None, Result, Ok, Err, Vec, option_map}
-use Rattle.std.specs.{Prelude.{option_and_then, if◌then◌else◌}, List.{after_first, before_first, position_or_len, slice_split}}
-use Rattle.{event_log.specs.{Digits.number_to, declared.ids.CpuId.CpuId}, mctower.specs.declared.line.schedules.{Item.Item, TheConstants.MOST_STEPS}}
-use Rattle.mctower.specs.declared.line.schedules.StepsError.{StepsError, TheVariants.{NoMemory, BadSchedule}}
+use Rattle.std.specs.Prelude.{◌≡◌, ◌==◌, ◌++◌, ℕ, Bool, List, [], ◌∷◌, length, replicate, nat_lt}
+use Rattle.std.specs.Prelude.{nat_le, Option, Some, None, Result, Ok, Err, Vec, option_map}
+use Rattle.std.specs.{Prelude.{option_and_then, if◌then◌else◌}, List.{after_first, before_first}}
+use Rattle.std.specs.List.{position_or_len, slice_split}
+use Rattle.event_log.specs.{Digits.number_to, declared.ids.CpuId.CpuId}
+use Rattle.mctower.specs.declared.line.schedules.{Item.Item, TheConstants.MOST_STEPS}
+use Rattle.mctower.specs.declared.line.schedules.StepsError.{StepsError, TheVariants.NoMemory}
+use Rattle.mctower.specs.declared.line.schedules.StepsError.TheVariants.{BadSchedule}
 
 -- the byte is a comma
 abbrev pub is_comma : ℕ → Bool
@@ -22,21 +26,28 @@ cpu_of text = option_map (λ number. record { 0 = number }) (number_to 255 text)
 
 -- the number of steps, from 1 to the most, that a text spells
 abbrev pub steps_spelled : List ℕ → Option ℕ
-steps_spelled text = option_and_then (λ number. if number == 0 then None else Some number) (number_to MOST_STEPS text)
+steps_spelled text =
+    option_and_then (λ number. if number == 0 then None else Some number)
+    (number_to MOST_STEPS text)
 
 -- the item `c*n` of the texts of its two numbers
 abbrev pub counted_item : List ℕ → List ℕ → Option Item
-counted_item cpu steps = option_and_then (λ c. option_map (λ n. record { cpu = c; steps = n }) (steps_spelled steps)) (cpu_of cpu)
+counted_item cpu steps =
+    option_and_then (λ c. option_map (λ n. record { cpu = c; steps = n }) (steps_spelled steps))
+    (cpu_of cpu)
 
 -- the item that a text spells: `c*n`, or `c` for one step
 abbrev pub item_of : List ℕ → Option Item
-item_of text = if has_star text then counted_item (before_first is_star text) (after_first is_star text)
+item_of text =
+    if has_star text then counted_item (before_first is_star text) (after_first is_star text)
     else option_map (λ c. record { cpu = c; steps = 1 }) (cpu_of text)
 
 -- the steps of all items, in order, if each text is an item
 abbrev pub steps_in : List (List ℕ) → Option (List CpuId)
 steps_in [] = Some []
-steps_in (text ∷ texts) = option_and_then (λ item. option_map (λ more. replicate item.steps item.cpu ++ more) (steps_in texts)) (item_of text)
+steps_in (text ∷ texts) =
+    option_and_then (λ item. option_map (λ more. replicate item.steps item.cpu ++ more)
+    (steps_in texts)) (item_of text)
 
 -- the steps, if they are at most the most
 abbrev pub if_few : List CpuId → Option (List CpuId)
@@ -52,7 +63,8 @@ schedule_pieces None = []
 schedule_pieces (Some text) = slice_split is_comma text
 
 -- a reading gives these steps, or fails if there are none, unless memory ran out
-abbrev pub ReadsSteps : {A : Type 0} → Option (List CpuId) → Result (Vec CpuId A) StepsError → Type 0
+abbrev pub ReadsSteps : {A : Type 0} → Option (List CpuId) → Result (Vec CpuId A) StepsError
+    → Type 0
 ReadsSteps steps (Ok read) = steps ≡ Some read.items
 ReadsSteps steps (Err (NoMemory refused)) = Unit {0}
 ReadsSteps steps (Err BadSchedule) = steps ≡ None

@@ -1,20 +1,32 @@
 -- What serving an order gives: the result, what is on standard output and on standard error, and
 -- whether the input is read.
-use Rattle.std.specs.Prelude.{◌≡◌, ◌*◌, ◌++◌, ◌⊎◌, ℕ, Bool, true, false, List, [], ◌∷◌, Option, Some, None, Result, Ok, Err, Vec, IfSome, IsUtf8, codes}
-use Rattle.std.specs.{Prelude.{decimal, if◌then◌else◌, is_some, map, string_bytes, String}, Global.Global, declared.io.ErrorKind.ErrorKind}
-use Rattle.std.specs.declared.io.ErrorKind.TheVariants.{OutOfMemory, InvalidData}
-use Rattle.{clap.specs.Walk.Text, event_log.specs.{declared.ids.CpuId.CpuId, Streams.IsFirstInFirstOut}, boot.specs.declared.refusals.BootError.BootError}
-use Rattle.boot.specs.{declared.{refusals.BootError.TheVariants.BadToml, locks.LockKind.LockKind}, Plan.{BootPlan, plan_of}}
-use Rattle.tracer.specs.{declared.{verdicts.Verdict.Verdict, checking.InputFault.InputFault}, Judging.verdict_of, Verdicts.IsTraceOfRun, Gather.on_buffer}
-use Rattle.mctower.specs.{Line.{Ghost, count, order_of, run, threads, check}, Output.{IsTold, IsUntouched, Output}, Refusals.{PutsRefusal, lacks_memory}}
-use Rattle.mctower.specs.{Refusals.{lacks_thread, status_of_refusal}, declared.refusals.Refusal.{Refusal, TheVariants.{BadLine, BadCpu, ReadFault, WriteFault}}}
-use Rattle.mctower.specs.declared.refusals.{Refusal.TheVariants.{BadSchedule, Plan as BadPlan}, line_faults.LineFault.{LineFault, TheVariants.NotText}}
-use Rattle.mctower.specs.declared.{refusals.line_faults.NoOrder.TheVariants.{AsksHelp, AsksVersion}, line.help_texts.TheConstants.VERSION}
-use Rattle.mctower.specs.{declared.{serve.outcomes.Done.{Done, TheVariants.{Exit, Ran, Worked, BothCounted}}, tell.state_lines.State.State}, Running.AreCpus}
-use Rattle.mctower.specs.{Running.{IsRunOf, NoCondition}, Faults.{IsFault, IsWhy}, Help.{help_of, topic_of}, State.{IsStateOf, text_of_state}}
-use Rattle.{mctower.specs.{Schedule.steps_of, Tabled.{IsStateOfRun, IsTextOfRun}, Texts.IsTextOf, Threads.{IsWorkedPlan, stop_text}}, cpu.specs.Claims.Shown}
-use Rattle.{cpu.specs.Claims.traces_of, cpu_workers.specs.declared.{workers.stops.Stop.Stop, counting.counted.Counted.Counted}}
-use Rattle.cpu_workers.specs.declared.counting.counted.CountedAt.{CountedAt, TheVariants.{Machine, Table}}
+use Rattle.std.specs.Prelude.{◌≡◌, ◌*◌, ◌++◌, ◌⊎◌, ℕ, Bool, true, false, List, [], ◌∷◌, Option}
+use Rattle.std.specs.Prelude.{Some, None, Result, Ok, Err, Vec, IfSome, IsUtf8, codes, decimal}
+use Rattle.std.specs.{Prelude.{if◌then◌else◌, is_some, map, string_bytes, String}, Global.Global}
+use Rattle.std.specs.declared.io.ErrorKind.{ErrorKind, TheVariants.{OutOfMemory, InvalidData}}
+use Rattle.{clap.specs.Walk.Text, event_log.specs.declared.ids.CpuId.CpuId}
+use Rattle.event_log.specs.Streams.{IsFirstInFirstOut}
+use Rattle.boot.specs.declared.refusals.BootError.{BootError, TheVariants.BadToml}
+use Rattle.boot.specs.{declared.locks.LockKind.LockKind, Plan.{BootPlan, plan_of}}
+use Rattle.tracer.specs.declared.{verdicts.Verdict.Verdict, checking.InputFault.InputFault}
+use Rattle.tracer.specs.{Judging.verdict_of, Verdicts.IsTraceOfRun, Gather.on_buffer}
+use Rattle.mctower.specs.{Line.{Ghost, count, order_of, run, threads, check}, Output.IsTold}
+use Rattle.mctower.specs.{Output.{IsUntouched, Output}, Refusals.{PutsRefusal, lacks_memory}}
+use Rattle.mctower.specs.Refusals.{lacks_thread, status_of_refusal}
+use Rattle.mctower.specs.declared.refusals.Refusal.{Refusal, TheVariants.{BadLine, BadCpu}}
+use Rattle.mctower.specs.declared.refusals.Refusal.TheVariants.{ReadFault, WriteFault, BadSchedule}
+use Rattle.mctower.specs.declared.refusals.Refusal.TheVariants.{Plan as BadPlan}
+use Rattle.mctower.specs.declared.refusals.line_faults.LineFault.{LineFault, TheVariants.NotText}
+use Rattle.mctower.specs.declared.refusals.line_faults.NoOrder.TheVariants.{AsksHelp, AsksVersion}
+use Rattle.mctower.specs.declared.{line.help_texts.TheConstants.VERSION, serve.outcomes.Done.Done}
+use Rattle.mctower.specs.declared.serve.outcomes.Done.TheVariants.{Exit, Ran, Worked, BothCounted}
+use Rattle.mctower.specs.{declared.tell.state_lines.State.State, Running.{AreCpus, IsRunOf}}
+use Rattle.mctower.specs.{Running.NoCondition, Faults.{IsFault, IsWhy}, Help.{help_of, topic_of}}
+use Rattle.mctower.specs.{State.{IsStateOf, text_of_state}, Schedule.steps_of, Tabled.IsStateOfRun}
+use Rattle.mctower.specs.{Tabled.IsTextOfRun, Texts.IsTextOf, Threads.{IsWorkedPlan, stop_text}}
+use Rattle.{cpu.specs.Claims.{Shown, traces_of}, cpu_workers.specs.declared.workers.stops.Stop.Stop}
+use Rattle.cpu_workers.specs.declared.counting.counted.{Counted.Counted, CountedAt.CountedAt}
+use Rattle.cpu_workers.specs.declared.counting.counted.CountedAt.TheVariants.{Machine, Table}
 use Rattle.tracer.specs.declared.verdicts.Verdict.TheVariants as verdict
 use Rattle.tracer.specs.Reasons as reasons
 use Rattle.tracer.specs.declared.checking.InputFault.TheVariants as unjudged
@@ -34,7 +46,8 @@ RefusedBy refusal answer out = (answer ≡ Err refusal) × IsUntouched out
 -- The text is written and flushed, and the result is that this is done. Or the output failed, a
 -- prefix of the text is written, and that is the result.
 abbrev pub Puts : Done → List ℕ → Result Done Refusal → Output → Type 0
-Puts done text answer out = (answer ≡ (if out.failed then Err WriteFault else Ok done)) × IsTold out text
+Puts done text answer out =
+    (answer ≡ (if out.failed then Err WriteFault else Ok done)) × IsTold out text
 
 -- ---- the input
 
@@ -66,18 +79,21 @@ ReadsAll input (Err refusal) = (kind : ErrorKind) × (refusal ≡ kind_refused k
 
 -- the two lines that `count` prints
 abbrev pub count_lines : ℕ → List ℕ
-count_lines number = codes "plain " ++ (decimal number ++ (codes "\ntable " ++ (decimal number ++ 10 ∷ [])))
+count_lines number =
+    codes "plain " ++ (decimal number ++ (codes "\ntable " ++ (decimal number ++ 10 ∷ [])))
 
 -- so many CPUs counted, so many sections each, under locks of this kind, on such a machine
 abbrev pub IsCount : ℕ → ℕ → LockKind → CountedAt → Counted → Type 0
-IsCount cpus times lock at counted = (counted.cpus ≡ cpus) × (counted.times ≡ times) × (counted.lock ≡ lock) × (counted.at ≡ at)
+IsCount cpus times lock at counted =
+    (counted.cpus ≡ cpus) × (counted.times ≡ times) × (counted.lock ≡ lock) × (counted.at ≡ at)
 
 -- Both machines counted so, and their number is printed; what counted is what is done. Or the order
 -- fails, because memory ran out or a thread could not be started.
 abbrev pub Counts : ℕ → ℕ → LockKind → Result Done Refusal → Output → Type 0
 Counts cpus times lock answer out = RefusedBy lacks_memory answer out
     ⊎ (RefusedBy lacks_thread answer out
-    ⊎ ((plain : Counted) × (table : Counted) × IsCount cpus times lock Machine plain × IsCount cpus times lock Table table
+    ⊎ ((plain : Counted) × (table : Counted) × IsCount cpus times lock Machine plain
+    × IsCount cpus times lock Table table
     × Puts (BothCounted plain table) (count_lines (times * cpus)) answer out))
 
 -- ---- check
@@ -87,7 +103,8 @@ Counts cpus times lock answer out = RefusedBy lacks_memory answer out
 abbrev pub PrintsVerdict : Verdict → Result Done Refusal → Output → Type 0
 PrintsVerdict verdict.Yes answer out = Puts (Exit 0) (codes "yes\n") answer out
 PrintsVerdict (verdict.No line reason) answer out =
-    Puts (Exit 3) (codes "no " ++ (decimal line ++ (codes " " ++ (reasons.reason_name reason ++ codes "\n")))) answer out
+    Puts (Exit 3) (codes "no "
+    ++ (decimal line ++ (codes " " ++ (reasons.reason_name reason ++ codes "\n")))) answer out
 PrintsVerdict (verdict.NoMemory refused) answer out = RefusedBy lacks_memory answer out
 
 -- The verdict on the input is printed, or the input was not read. After a yes the input is the
@@ -95,24 +112,29 @@ PrintsVerdict (verdict.NoMemory refused) answer out = RefusedBy lacks_memory ans
 abbrev pub Checks : Option (List ℕ) → Result Done Refusal → Output → Type 0
 Checks input answer out = RefusedBy lacks_memory answer out
     ⊎ (RefusedBy ReadFault answer out
-    ⊎ ((text : List ℕ) × IsInput input text × PrintsVerdict (verdict_of text) answer out × (verdict_of text ≡ verdict.Yes → IsTraceOfRun text)))
+    ⊎ ((text : List ℕ) × IsInput input text × PrintsVerdict (verdict_of text) answer out
+    × (verdict_of text ≡ verdict.Yes → IsTraceOfRun text)))
 
 -- ---- plans
 
+-- what an order means for a plan, of the result and of standard output
+abbrev pub Meaning : Type 1
+Meaning = BootPlan → Result Done Refusal → Output → Type 0
+
 -- what is meant for a plan holds; or the text is no plan, and its first fault is the error
-abbrev pub OfPlan : (BootPlan → Result Done Refusal → Output → Type 0) → Result BootPlan BootError → Result Done Refusal → Output → Type 0
+abbrev pub OfPlan : Meaning → Result BootPlan BootError → Result Done Refusal → Output → Type 0
 OfPlan Means (Ok plan) answer out = Means plan answer out
 OfPlan Means (Err error) answer out = RefusedBy (BadPlan error) answer out
 
 -- it holds for the plan of these bytes; bytes that are no UTF-8 are no document; unless memory ran
 -- out
-abbrev pub OfBytes : (BootPlan → Result Done Refusal → Output → Type 0) → List ℕ → Result Done Refusal → Output → Type 0
+abbrev pub OfBytes : Meaning → List ℕ → Result Done Refusal → Output → Type 0
 OfBytes Means bytes answer out = RefusedBy lacks_memory answer out
     ⊎ (((¬ IsUtf8 bytes) × RefusedBy (BadPlan BadToml) answer out)
     ⊎ (IsUtf8 bytes × OfPlan Means (plan_of bytes) answer out))
 
 -- it holds for the input's plan, or the input was not read
-abbrev pub OfInput : (BootPlan → Result Done Refusal → Output → Type 0) → Option (List ℕ) → Result Done Refusal → Output → Type 0
+abbrev pub OfInput : Meaning → Option (List ℕ) → Result Done Refusal → Output → Type 0
 OfInput Means input answer out = RefusedBy lacks_memory answer out
     ⊎ (RefusedBy ReadFault answer out
     ⊎ ((bytes : List ℕ) × IsInput input bytes × OfBytes Means bytes answer out))
@@ -122,7 +144,8 @@ OfInput Means input answer out = RefusedBy lacks_memory answer out
 -- the report is the system's state, which is that of the step table's system; or the output failed
 abbrev pub ReportsRun : BootPlan → List CpuId → Shown → Result Done Refusal → Bool → Type 0
 ReportsRun plan steps s answer false =
-    (state : State) × IsStateOf NoCondition s state × IsStateOfRun plan steps state × (answer ≡ Ok (Ran state))
+    (state : State) × IsStateOf NoCondition s state × IsStateOfRun plan steps state
+    × (answer ≡ Ok (Ran state))
 ReportsRun plan steps s answer true = answer ≡ Err WriteFault
 
 -- the text is written and flushed, and the report is the system's state; or the output failed, and
@@ -134,7 +157,8 @@ PutsRun plan steps s text answer out = ReportsRun plan steps s answer out.failed
 -- order, for each buffer the values put are, in that order, the values taken, followed by what is
 -- left. Each buffer's calls are in the order in which they took effect. It is the text of the step
 -- table's system of the plan after these steps.
-pub record RunsTrace (plan : BootPlan) (steps : List CpuId) (answer : Result Done Refusal) (printed : Output) : Type 0 where
+pub record RunsTrace (plan : BootPlan) (steps : List CpuId) (answer : Result Done Refusal)
+    (printed : Output) : Type 0 where
   pub cpus : AreCpus plan.cpus steps
   pub system : Shown
   pub ran : IsRunOf NoCondition plan steps system
@@ -147,23 +171,28 @@ pub record RunsTrace (plan : BootPlan) (steps : List CpuId) (answer : Result Don
 
 -- the plan is run over the tower, or a step is of no CPU of it
 abbrev pub ServesPlan : List CpuId → BootPlan → Result Done Refusal → Output → Type 0
-ServesPlan steps plan answer out = ((¬ AreCpus plan.cpus steps) × RefusedBy BadCpu answer out) ⊎ RunsTrace plan steps answer out
+ServesPlan steps plan answer out =
+    ((¬ AreCpus plan.cpus steps) × RefusedBy BadCpu answer out) ⊎ RunsTrace plan steps answer out
 
 -- the steps that a schedule asks for: none without one
 abbrev pub steps_asked : Option Text → Option (List CpuId)
 steps_asked None = Some []
 steps_asked (Some text) = steps_of text
 
--- the steps are run; a text that is no schedule is a bad command line, unless memory ran out
-abbrev pub RunsAsked : Option (List CpuId) → Option (List ℕ) → Result Done Refusal → Output → Type 0
-RunsAsked (Some steps) input answer out = OfInput (ServesPlan steps) input answer out
-RunsAsked None input answer out = RefusedBy lacks_memory answer out ⊎ RefusedBy BadSchedule answer out
+-- the steps are run, which means this of a plan; a text that is no schedule is a bad command line,
+-- unless memory ran out
+abbrev pub RunsAsked : (List CpuId → Meaning) → Option (List CpuId) → Option (List ℕ)
+    → Result Done Refusal → Output → Type 0
+RunsAsked Means (Some steps) input answer out = OfInput (Means steps) input answer out
+RunsAsked Means None input answer out =
+    RefusedBy lacks_memory answer out ⊎ RefusedBy BadSchedule answer out
 
 -- ---- threads
 
 -- the plan's workers have run, each for so many turns, and the trace text of what they left is
 -- written; the report is their stops
-pub record WorksTrace (plan : BootPlan) (turns : ℕ) (answer : Result Done Refusal) (printed : Output) : Type 0 where
+pub record WorksTrace (plan : BootPlan) (turns : ℕ) (answer : Result Done Refusal)
+    (printed : Output) : Type 0 where
   pub stops : Vec Stop Global
   pub trace : List ℕ
   pub worked : IsWorkedPlan plan turns stops.items trace
@@ -171,7 +200,8 @@ pub record WorksTrace (plan : BootPlan) (turns : ℕ) (answer : Result Done Refu
 
 -- the plan's workers have run, or a thread could not be started
 abbrev pub WorksPlan : ℕ → BootPlan → Result Done Refusal → Output → Type 0
-WorksPlan turns plan answer out = RefusedBy lacks_thread answer out ⊎ WorksTrace plan turns answer out
+WorksPlan turns plan answer out =
+    RefusedBy lacks_thread answer out ⊎ WorksTrace plan turns answer out
 
 -- ---- no order
 
@@ -195,13 +225,24 @@ PutsAnswer words answer out = RefusedBy lacks_memory answer out
 
 -- Serving what the words mean: the result, and what became of standard output. The bytes on
 -- standard input are `input`, if they are known. Memory may run out, or the input may fail, in any
--- case.
-abbrev pub Serves : List Text → Option Ghost → Option (List ℕ) → Result Done Refusal → Output → Type 0
-Serves words None input answer out = PutsAnswer words answer out
-Serves words (Some (count cpus times lock)) input answer out = Counts cpus times lock answer out
-Serves words (Some check) input answer out = Checks input answer out
-Serves words (Some (run schedule)) input answer out = RunsAsked (steps_asked schedule) input answer out
-Serves words (Some (threads turns)) input answer out = OfInput (WorksPlan turns) input answer out
+-- case. `OfRun` is what a run of a plan by these steps means, and `OfThreads` what so many turns of
+-- its workers mean.
+abbrev pub ServesBy : (List CpuId → Meaning) → (ℕ → Meaning)
+    → List Text → Option Ghost → Option (List ℕ) → Result Done Refusal → Output → Type 0
+ServesBy OfRun OfThreads words None input answer out = PutsAnswer words answer out
+ServesBy OfRun OfThreads words (Some (count cpus times lock)) input answer out =
+    Counts cpus times lock answer out
+ServesBy OfRun OfThreads words (Some check) input answer out = Checks input answer out
+ServesBy OfRun OfThreads words (Some (run schedule)) input answer out =
+    RunsAsked OfRun (steps_asked schedule) input answer out
+ServesBy OfRun OfThreads words (Some (threads turns)) input answer out =
+    OfInput (OfThreads turns) input answer out
+
+-- a run of a plan is one of its tower, and its workers leave a lawful report
+abbrev pub Serves : List Text → Option Ghost → Option (List ℕ) → Result Done Refusal → Output
+    → Type 0
+Serves words ghost_of input answer out =
+    ServesBy ServesPlan WorksPlan words ghost_of input answer out
 
 -- ---- standard error
 
@@ -216,19 +257,35 @@ Reports words (Ok (Ran state)) out = IsTold out (text_of_state state)
 Reports words (Ok (Worked stops)) out = IsTold out (stop_text stops.items)
 Reports words (Err refusal) out = PutsRefusal words refusal out
 
--- A command line is served: one result determines the exit status, standard output and standard
--- error.
-pub record Ends (words : List Text) (ghost_of : Option Ghost) (input : Option (List ℕ)) (status : ℕ) (out err : Output) : Type 0 where
+-- A command line is served, where a run of a plan and its workers mean this: one result determines
+-- the exit status, standard output and standard error.
+pub record EndsBy (OfRun : List CpuId → Meaning) (OfThreads : ℕ → Meaning)
+    (words : List Text) (ghost_of : Option Ghost) (input : Option (List ℕ)) (status : ℕ)
+    (out err : Output) : Type 0 where
   pub answer : Result Done Refusal
   pub ends : status ≡ status_of answer
-  pub served : Serves words ghost_of input answer out
+  pub served : ServesBy OfRun OfThreads words ghost_of input answer out
   pub told : Reports words answer err
+
+abbrev pub Ends : List Text → Option Ghost → Option (List ℕ) → ℕ → Output → Output → Type 0
+Ends words ghost_of input status out err =
+    EndsBy ServesPlan WorksPlan words ghost_of input status out err
 
 -- The process ends: its words are served. Or they could not be had: nothing is written to standard
 -- output, and standard error has the report of that.
-abbrev pub EndsProcess : {A B : Type 0} → Result (Vec (String A) B) Refusal → Option (List ℕ) → ℕ → Output → Output → Type 0
-EndsProcess (Ok words) input status out err = Ends (map string_bytes words.items) (order_of (map string_bytes words.items)) input status out err
-EndsProcess (Err refusal) input status out err = (status ≡ status_of_refusal refusal) × IsUntouched out × PutsRefusal [] refusal err
+abbrev pub EndsProcessBy : (List CpuId → Meaning) → (ℕ → Meaning)
+    → {A B : Type 0} → Result (Vec (String A) B) Refusal → Option (List ℕ) → ℕ → Output → Output
+    → Type 0
+EndsProcessBy OfRun OfThreads (Ok words) input status out err =
+    EndsBy OfRun OfThreads (map string_bytes words.items) (order_of (map string_bytes words.items))
+    input status out err
+EndsProcessBy OfRun OfThreads (Err refusal) input status out err =
+    (status ≡ status_of_refusal refusal) × IsUntouched out × PutsRefusal [] refusal err
+
+abbrev pub EndsProcess : {A B : Type 0} → Result (Vec (String A) B) Refusal → Option (List ℕ) → ℕ
+    → Output → Output → Type 0
+EndsProcess words input status out err =
+    EndsProcessBy ServesPlan WorksPlan words input status out err
 
 -- ---- standard input
 

@@ -1,7 +1,9 @@
 -- What the state lines report of a system.
 use Rattle.std.specs.Prelude.{◌≡◌, ◌↔◌, ℕ, true, List, length, take, Some, slice_get}
-use Rattle.{layer_traits.specs.declared.calls.Place.Place, cpu.specs.{Calm.IsQuiet, Claims.{IsPlaceOf, Shown, listed}, Sound.IsSetupFor, Systems.halted_in}}
-use Rattle.{cpu.specs.{Systems.whole_of, Table.Setups.Setup, Observed.IsStill, Wakeups.Quiet.IsQuietTable}, mctower.specs.StateLines.state_text}
+use Rattle.{layer_traits.specs.declared.calls.Place.Place, cpu.specs.Calm.IsQuiet}
+use Rattle.cpu.specs.{Claims.{IsPlaceOf, Shown, listed}, Sound.IsSetupFor, Systems.halted_in}
+use Rattle.cpu.specs.{Systems.whole_of, Table.Setups.Setup, Observed.IsStill}
+use Rattle.{cpu.specs.Wakeups.Quiet.IsQuietTable, mctower.specs.StateLines.state_text}
 use Rattle.mctower.specs.declared.tell.state_lines.State.{State}
 
 -- where each thread is
@@ -21,7 +23,9 @@ pub record IsStateOf (IsStepwise : Type 0) (s : Shown) (state : State) : Type 0 
   pub halted : state.halted.items ≡ listed (λ c. halted_in (record { 0 = c }) s) 0 (length s.cpus)
   pub count : state.threads ≡ length s.homes
   pub many : length (places_in state) ≡ length s.homes
-  pub places : (t : ℕ) (place : Place) → slice_get (places_in state) t ≡ Some place → IsPlaceOf s (record { 0 = t }) place
+  pub places : (t : ℕ) (place : Place) → slice_get (places_in state) t ≡ Some place
+      → IsPlaceOf s (record { 0 = t }) place
   pub quiet : (state.is_quiet ≡ true) ↔ IsQuiet s
-  pub table : IsStepwise → (setup : Setup) → IsSetupFor setup s → ((state.is_quiet ≡ true) ↔ IsQuietTable setup (whole_of s))
+  pub table : IsStepwise → (setup : Setup) → IsSetupFor setup s
+      → ((state.is_quiet ≡ true) ↔ IsQuietTable setup (whole_of s))
   pub still : IsStepwise → state.is_quiet ≡ true → IsStill s

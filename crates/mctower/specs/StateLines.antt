@@ -1,9 +1,13 @@
 -- The state lines: for each CPU why it is halted, for each thread where it is, and whether the
 -- system is quiet.
-use Rattle.std.specs.{Prelude.{ℕ, Bool, List, [], ◌∷◌, ◌++◌, Option, Some, None, codes, decimal, if◌then◌else◌}, List.flat_map}
-use Rattle.layer_traits.specs.declared.{steps.Reason.{Reason, TheVariants.{AllEnded, TraceFull, StepsUsed}}, calls.Place.{Place, TheVariants.{Running, Ready}}}
-use Rattle.{layer_traits.specs.declared.calls.Place.TheVariants.{Pending, Hand, LockSleeper, WaitRecv, WaitSend, Ended}, tracer.specs.TraceText.text_line}
-use Rattle.tracer.specs.TraceText.{numbered}
+use Rattle.std.specs.Prelude.{ℕ, Bool, List, [], ◌∷◌, ◌++◌, Option, Some, None, codes, decimal}
+use Rattle.std.specs.{Prelude.if◌then◌else◌, List.flat_map}
+use Rattle.layer_traits.specs.declared.steps.Reason.{Reason, TheVariants.{AllEnded, TraceFull}}
+use Rattle.layer_traits.specs.declared.{steps.Reason.TheVariants.StepsUsed, calls.Place.Place}
+use Rattle.layer_traits.specs.declared.calls.Place.TheVariants.{Running, Ready, Pending, Hand}
+use Rattle.layer_traits.specs.declared.calls.Place.TheVariants.{LockSleeper, WaitRecv, WaitSend}
+use Rattle.layer_traits.specs.declared.calls.Place.TheVariants.{Ended}
+use Rattle.tracer.specs.TraceText.{text_line, numbered}
 
 -- the word for a CPU: it is live, or why it is halted
 abbrev pub halted_word : Option Reason → List ℕ
@@ -63,4 +67,5 @@ quiet_pieces quiet = codes "quiet" ∷ (if quiet then codes "yes" else codes "no
 -- one on the whole system
 abbrev pub state_text : List (Option Reason) → List Place → Bool → List ℕ
 state_text halted places quiet =
-    flat_map text_line (numbered halted_pieces 0 halted) ++ (flat_map text_line (numbered thread_pieces 0 places) ++ text_line (quiet_pieces quiet))
+    flat_map text_line (numbered halted_pieces 0 halted)
+    ++ (flat_map text_line (numbered thread_pieces 0 places) ++ text_line (quiet_pieces quiet))

@@ -1,11 +1,15 @@
 -- A run of a plan in threads: what its workers leave, and the lines that report why each of them
 -- stopped.
 use Rattle.std.specs.{Prelude.{◌≡◌, ℕ, List, codes, length}, List.flat_map}
-use Rattle.{event_log.specs.{declared.ids.CpuId.CpuId, Streams.IsFirstInFirstOut}, tracer.specs.{Gather.on_buffer, TraceText.{text_line, numbered}}}
-use Rattle.{boot.specs.Plan.BootPlan, cpu.specs.Sound.setup_for, cpu_workers.specs.declared.workers.{gates.Go.{Go, TheVariants.Pass}, stops.Stop.Stop}}
-use Rattle.cpu_workers.specs.{declared.workers.stops.Stop.TheVariants.{AllEnded, TurnsUsed, TraceFull, Held}, Lawful.{IsLawfulReport, ShownReport, left_in}}
-use Rattle.cpu_workers.specs.Logs.{HasWords}
-use Rattle.mctower.specs.{Running.AreCpus, StateLines.cpu_pieces, Tabled.IsTextOfRun, Texts.IsTextOf}
+use Rattle.event_log.specs.{declared.ids.CpuId.CpuId, Streams.IsFirstInFirstOut}
+use Rattle.tracer.specs.{Gather.on_buffer, TraceText.{text_line, numbered}}
+use Rattle.{boot.specs.Plan.BootPlan, cpu.specs.Sound.setup_for}
+use Rattle.cpu_workers.specs.declared.workers.{gates.Go.{Go, TheVariants.Pass}, stops.Stop.Stop}
+use Rattle.cpu_workers.specs.declared.workers.stops.Stop.TheVariants.{AllEnded, TurnsUsed}
+use Rattle.cpu_workers.specs.declared.workers.stops.Stop.TheVariants.{TraceFull, Held}
+use Rattle.cpu_workers.specs.{Lawful.{IsLawfulReport, ShownReport, left_in}, Logs.HasWords}
+use Rattle.mctower.specs.{Running.AreCpus, StateLines.cpu_pieces, Tabled.IsTextOfRun}
+use Rattle.mctower.specs.Texts.{IsTextOf}
 
 -- the word for a stop
 abbrev pub stop_word : Stop → List ℕ
@@ -38,7 +42,8 @@ pub record IsPrintedByRun (plan : BootPlan) (text : List ℕ) : Type 0 where
 -- hold. In the text's order, for each buffer the values put are, in that order, the values taken,
 -- followed by what is left. The calls of each buffer are in the order in which they took effect, by
 -- the releases of that log. A run of the plan prints the same text.
-pub record IsWorkedPlan (plan : BootPlan) (turns : ℕ) (stops : List Stop) (text : List ℕ) : Type 0 where
+pub record IsWorkedPlan (plan : BootPlan) (turns : ℕ) (stops : List Stop) (text : List ℕ) : Type
+    0 where
   pub report : ShownReport
   pub words : HasWords plan AlwaysOpen turns report
   pub stops_are : stops ≡ report.stops
@@ -50,5 +55,8 @@ pub record IsWorkedPlan (plan : BootPlan) (turns : ℕ) (stops : List Stop) (tex
 -- what the workers of a plan print, a run of the plan prints under some schedule, however their
 -- actions interleave
 abbrev pub ThreadsPrintARun : Type 0
-ThreadsPrintARun = (plan : BootPlan) (turns : ℕ) (report : ShownReport) (text : List ℕ) → IsLawfulReport (setup_for plan) AlwaysOpen turns report
-    → IsTextOf plan.caps report.traces (left_in (length plan.caps) report) text → IsPrintedByRun plan text
+ThreadsPrintARun =
+    (plan : BootPlan) (turns : ℕ) (report : ShownReport) (text : List ℕ)
+    → IsLawfulReport (setup_for plan) AlwaysOpen turns report
+    → IsTextOf plan.caps report.traces (left_in (length plan.caps) report) text
+    → IsPrintedByRun plan text

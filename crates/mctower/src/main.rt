@@ -73,7 +73,8 @@ fn words_after_the_name(rt: &HostRuntime) -> Result<Vec<String>, Refusal> {
 
 /// Returns the words as texts.
 fn texts_of<'w>(alloc: Global, words: &'w [String]) -> Result<Vec<&'w str>, NoMemory>
-    ensures { IfOk result (λ texts. map (λ t. t.now) texts.items ≡ map string_bytes words.entry.now) }
+    ensures { IfOk result (λ texts. map (λ t. t.now) texts.items
+        ≡ map string_bytes words.entry.now) }
 {
     let mut texts = Vec::new(alloc);
     for word in words {
@@ -86,7 +87,8 @@ fn texts_of<'w>(alloc: Global, words: &'w [String]) -> Result<Vec<&'w str>, NoMe
 fn refused<E: Write>(err: &mut Sink<E>, words: &[&str], refusal: Refusal) -> ExitCode
     requires { has_failed err.old ≡ false }
     ensures status { exit_status result ≡ status_of_refusal refusal }
-    ensures told { PutsRefusal (map (λ w. w.now) words.now) refusal (between E.contents err.old err.new) }
+    ensures told { PutsRefusal (map (λ w. w.now) words.now) refusal
+        (between E.contents err.old err.new) }
 {
     let status = status_of_refusal(&refusal);
     write_report(err, words, refusal);
@@ -106,7 +108,8 @@ fn serve_words<T: AllocGlobal + Threads + Wait + Sync, R: Read, O: Write, E: Wri
 ) -> ExitCode
     requires out { has_failed out.old ≡ false }
     requires err { has_failed err.old ≡ false }
-    ensures ends { EndsProcess words (R.remaining input.old) (exit_status result) (between O.contents out.old out.new) (between E.contents err.old err.new) }
+    ensures ends { EndsProcess words (R.remaining input.old) (exit_status result)
+        (between O.contents out.old out.new) (between E.contents err.old err.new) }
     ensures unread { process_reads words ≡ false → input.new ≡ input.old }
 {
     let words = match words {

@@ -52,7 +52,8 @@ where
     I::Machine: Drop,
     requires live { has_failed sink.old ≡ false }
     requires few { length steps.now ≤ MOST_STEPS }
-    ensures { RunsPlan I.IsStepwise boot.now steps.now result (between W.contents sink.old sink.new) }
+    ensures { RunsPlan I.IsStepwise boot.now steps.now result
+        (between W.contents sink.old sink.new) }
 {
     let caps = boot.caps();
     let mut system = System::open(alloc, boot, steps.len())?;
@@ -86,7 +87,8 @@ where
     J::Machine: Drop,
     requires live { has_failed sink.old ≡ false }
     requires few { length steps.now ≤ MOST_STEPS }
-    ensures { RunsText (on_lock I.IsStepwise J.IsStepwise) (plan_of plan.now) steps.now result (between W.contents sink.old sink.new) }
+    ensures { RunsText (on_lock I.IsStepwise J.IsStepwise) (plan_of plan.now) steps.now result
+        (between W.contents sink.old sink.new) }
 {
     let boot = Boot::read(alloc, plan)?;
     run_read(alloc, &boot, steps, sink)
@@ -104,7 +106,8 @@ where
     J::Machine: Drop,
     requires live { has_failed sink.old ≡ false }
     requires few { length steps.now ≤ MOST_STEPS }
-    ensures { RunsText (on_lock I.IsStepwise J.IsStepwise) (Ok boot.now) steps.now result (between W.contents sink.old sink.new) }
+    ensures { RunsText (on_lock I.IsStepwise J.IsStepwise) (Ok boot.now) steps.now result
+        (between W.contents sink.old sink.new) }
 {
     match boot.lock() {
         LockKind::Ticket => match run_boot::<I, W>(alloc, boot, steps, sink) {
@@ -133,7 +136,8 @@ where
     I::Machine: Drop,
     requires live { has_failed sink.old ≡ false }
     requires plan { IsOfPlan cpus caps.now system.now }
-    ensures { Writes caps.now (traces_of system.now) system.now.contents result (between W.contents sink.old sink.new) }
+    ensures { Writes caps.now (traces_of system.now) system.now.contents result
+        (between W.contents sink.old sink.new) }
 {
     system.holds();
     system.traces_fit();

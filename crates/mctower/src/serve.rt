@@ -3,8 +3,8 @@
 
 ghost use Rattle.std.specs.Prelude.{◌≡◌, ◌≤◌, ◌⊎◌, IfOk, None, false, true, length, map, option_map, string_bytes};
 ghost use Rattle.{event_log.specs.declared.ids.TheConstants.CPUS, tracer.specs.Sinks.{has_failed, is_flushed}, mctower.specs.{Output.between, Line.order_of}};
-ghost use Rattle.mctower.specs.{Schedule.ReadsSteps, Serve.{Checks, Counts, Ends, OfBytes, OfInput, PutsAnswer, ServesPlan, Serves}};
-ghost use Rattle.mctower.specs.{Histories.TextsAreHistories, Serve.{PrintsVerdict, fault_refused, reads_input, steps_asked}};
+ghost use Rattle.mctower.specs.{Schedule.ReadsSteps, Serve.{Checks, Counts, Ends, OfBytes, OfInput, PutsAnswer, ServesPlan, Serves, PrintsVerdict}};
+ghost use Rattle.mctower.specs.{Serve.{fault_refused, reads_input, steps_asked}, ByTable.{ProcessesRunTheTable, RunsAreReached}, Histories.TextsAreHistories};
 
 pub mod outcomes;
 pub mod worker_runs;
@@ -141,7 +141,8 @@ fn run_bytes<O: Write>(
 ) -> Result<Done, Refusal>
     requires live { has_failed out.old ≡ false }
     requires few { length steps.now ≤ MOST_STEPS }
-    ensures runs { OfBytes (ServesPlan steps.now) bytes.now result (between O.contents out.old out.new) }
+    ensures runs { OfBytes (ServesPlan steps.now) bytes.now result
+        (between O.contents out.old out.new) }
     ensures flushed { IfOk result (λ _. is_flushed out.new ≡ true) }
 {
     let Ok(plan) = str::from_utf8(bytes) else {
@@ -163,7 +164,8 @@ fn serve_run<R: Read, O: Write>(
 ) -> Result<Done, Refusal>
     requires live { has_failed out.old ≡ false }
     requires few { length steps.now ≤ MOST_STEPS }
-    ensures runs { OfInput (ServesPlan steps.now) (R.remaining input.old) result (between O.contents out.old out.new) }
+    ensures runs { OfInput (ServesPlan steps.now) (R.remaining input.old) result
+        (between O.contents out.old out.new) }
     ensures flushed { IfOk result (λ _. is_flushed out.new ≡ true) }
 {
     let bytes = match read_all(alloc, input) {
@@ -184,7 +186,8 @@ fn serve_no_order<O: Write>(
 ) -> Result<Done, Refusal>
     requires none { order_of (map (λ w. w.now) words.now) ≡ None }
     requires live { has_failed out.old ≡ false }
-    ensures answers { PutsAnswer (map (λ w. w.now) words.now) result (between O.contents out.old out.new) }
+    ensures answers { PutsAnswer (map (λ w. w.now) words.now) result
+        (between O.contents out.old out.new) }
     ensures flushed { IfOk result (λ _. is_flushed out.new ≡ true) }
 {
     let name = b"mctower ".as_slice();
@@ -209,6 +212,21 @@ pub fn texts_are_histories()
     ensures { TextsAreHistories }
 {}
 
+/// A law, the top theorem: what a process does with a plan is the step table's run of it. `run`
+/// prints the text of that run under the schedule, and its state. `threads` prints the text of such
+/// a run under some schedule. The law follows from the contract of the program's last call, and
+/// mentions neither the tower nor a log.
+pub fn processes_run_the_table()
+    ensures { ProcessesRunTheTable }
+{}
+
+/// A law: each run of a plan in the step table is a state that the table reaches. Therefore the
+/// table's laws (of `cpu`) hold of what a process prints: no wake-up is lost, a quiescent system is
+/// stuck, a call without contention returns, and each thread is in one place.
+pub fn runs_are_reached()
+    ensures { RunsAreReached }
+{}
+
 /// Does what the words order, and returns what is done. It writes nothing to standard error.
 fn answer<R: Read, O: Write, T: Threads + Wait + Sync>(
     rt: &T,
@@ -218,10 +236,12 @@ fn answer<R: Read, O: Write, T: Threads + Wait + Sync>(
     out: &mut Sink<O>,
 ) -> Result<Done, Refusal>
     requires { has_failed out.old ≡ false }
-    ensures served { Serves (map (λ w. w.now) words.now) (order_of (map (λ w. w.now) words.now)) (R.remaining input.old) result
+    ensures served { Serves (map (λ w. w.now) words.now) (order_of (map (λ w. w.now) words.now))
+        (R.remaining input.old) result
         (between O.contents out.old out.new) }
     ensures flushed { IfOk result (λ _. is_flushed out.new ≡ true) }
-    ensures unread { reads_input (order_of (map (λ w. w.now) words.now)) ≡ false → input.new ≡ input.old }
+    ensures unread { reads_input (order_of (map (λ w. w.now) words.now)) ≡ false
+        → input.new ≡ input.old }
 {
     match read_line(alloc, words) {
         Err(LineError::NoMemory(refused)) => Err(Refusal::NoMemory(refused)),
@@ -264,10 +284,12 @@ pub fn serve<R: Read, O: Write, E: Write, T: Threads + Wait + Sync>(
 ) -> u8
     requires out { has_failed out.old ≡ false }
     requires err { has_failed err.old ≡ false }
-    ensures served { Ends (map (λ w. w.now) words.now) (order_of (map (λ w. w.now) words.now)) (R.remaining input.old) result
+    ensures served { Ends (map (λ w. w.now) words.now) (order_of (map (λ w. w.now) words.now))
+        (R.remaining input.old) result
         (between O.contents out.old out.new) (between E.contents err.old err.new) }
     ensures flushed { (result ≡ 0) ⊎ (result ≡ 3) → is_flushed out.new ≡ true }
-    ensures unread { reads_input (order_of (map (λ w. w.now) words.now)) ≡ false → input.new ≡ input.old }
+    ensures unread { reads_input (order_of (map (λ w. w.now) words.now)) ≡ false
+        → input.new ≡ input.old }
 {
     match answer(rt, alloc, words, input, out) {
         Ok(Done::Exit(status)) => status,

@@ -1,9 +1,10 @@
 use Rattle.{std.proofs.Common.{Option, Some, None, List, ℕ, Err, inl, refl, map, string_bytes}, clap.specs.Walk.Text, event_log.specs.declared.ids.CpuId.CpuId}
-use Rattle.mctower.specs.{Line.{Ghost, order_of, run}, Output.{IsUntouched, Output, between}, Serve.{RunsAsked, Serves, steps_asked}, Refusals.lacks_memory}
+use Rattle.mctower.specs.{Line.{Ghost, order_of, run}, Output.{IsUntouched, Output, between}, Serve.{RunsAsked, Serves, ServesPlan, steps_asked}}
+use Rattle.mctower.specs.Refusals.{lacks_memory}
 use Rattle.mctower.proofs.serve_words.Goals as goal
 
 -- a run may fail because memory ran out
-run_refused : (steps : Option (List CpuId)) (input : Option (List ℕ)) (out : Output) → IsUntouched out → RunsAsked steps input (Err lacks_memory) out
+run_refused : (steps : Option (List CpuId)) (input : Option (List ℕ)) (out : Output) → IsUntouched out → RunsAsked ServesPlan steps input (Err lacks_memory) out
 run_refused (Some steps) input out untouched = inl (refl, untouched)
 run_refused None input out untouched = inl (refl, untouched)
 

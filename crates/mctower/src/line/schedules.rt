@@ -91,7 +91,9 @@ pub fn read_steps(alloc: Global, text: &str) -> Result<Vec<CpuId>, StepsError>
 // or rejects.
 #[inline(always)]
 fn single_step(text: &str) -> Option<(CpuId, &str)>
-    ensures step { IfSome result (λ r. steps_in (slice_split is_comma text.now) ≡ option_map (λ more. r.0 ∷ more) (steps_in (slice_split is_comma r.1.now))) }
+    ensures step { IfSome result
+        (λ r. steps_in (slice_split is_comma text.now)
+        ≡ option_map (λ more. r.0 ∷ more) (steps_in (slice_split is_comma r.1.now))) }
     ensures shorter { IfSome result (λ r. length r.1.now < length text.now) }
 {
     let (count, cpu) = cpu_digits(text.as_bytes())?;
@@ -104,7 +106,8 @@ fn single_step(text: &str) -> Option<(CpuId, &str)>
 #[inline(always)]
 fn cpu_digits(text: &[u8]) -> Option<(usize, CpuId)>
     ensures digits { IfSome result (λ r. all_ascii_digits (take r.0 text.now) ≡ true) }
-    ensures item { IfSome result (λ r. item_of (take r.0 text.now) ≡ Some (record { cpu = r.1; steps = 1 })) }
+    ensures item { IfSome result
+        (λ r. item_of (take r.0 text.now) ≡ Some (record { cpu = r.1; steps = 1 })) }
     ensures comma { IfSome result (λ r. slice_index text.now r.0 ≡ 44) }
     ensures inside { IfSome result (λ r. r.0 < length text.now) }
 {
@@ -135,7 +138,8 @@ fn cpu_digits(text: &[u8]) -> Option<(usize, CpuId)>
 // Returns whether a digit is at a place.
 #[inline(always)]
 fn is_digit_at(text: &[u8], at: usize) -> bool
-    ensures { result ≡ true → (at < length text.now) × (is_ascii_digit (slice_index text.now at) ≡ true) }
+    ensures { result ≡ true
+        → (at < length text.now) × (is_ascii_digit (slice_index text.now at) ≡ true) }
 {
     at < text.len() && text[at].is_ascii_digit()
 }
@@ -150,7 +154,8 @@ fn is_comma_at(text: &[u8], at: usize) -> bool
 
 // Returns the text before the first comma, and the text after it.
 fn cut_item(text: &str) -> (&str, Option<&str>)
-    ensures pieces { slice_split is_comma text.now ≡ result.0.now ∷ schedule_pieces (option_map (λ t. t.now) result.1) }
+    ensures pieces { slice_split is_comma text.now
+        ≡ result.0.now ∷ schedule_pieces (option_map (λ t. t.now) result.1) }
     ensures shorter { IfSome result.1 (λ t. length t.now < length text.now) }
 {
     match text.split_once(',') {

@@ -35,7 +35,8 @@ fn round<L: LockLayer<AddOne>>(
     ensures room { L.room machine.old ≤ L.room machine.new + 3 * length parts.old }
     ensures owned { (c : CpuId) → c.0 < CPUS → L.ActsFor machine.new c }
     ensures rests { (c : CpuId) → phase c (L.acts machine.new) ≡ Rests }
-    ensures counted { sections_at lock (L.seen machine.new) ≡ sections_at lock (L.seen machine.old) + length parts.old }
+    ensures counted { sections_at lock (L.seen machine.new)
+        ≡ sections_at lock (L.seen machine.old) + length parts.old }
     ensures order { L.acts machine.new ≡ after_round lock (length parts.old) (L.acts machine.old) }
 {
     for i in 0..parts.len() {
@@ -54,8 +55,10 @@ fn rounds<L: LockLayer<AddOne>>(parts: &mut [L], machine: &mut L::Machine, lock:
     ensures opening { L.opening machine.new ≡ L.opening machine.old }
     ensures owned { (c : CpuId) → c.0 < CPUS → L.ActsFor machine.new c }
     ensures rests { (c : CpuId) → phase c (L.acts machine.new) ≡ Rests }
-    ensures counted { sections_at lock (L.seen machine.new) ≡ sections_at lock (L.seen machine.old) + times * length parts.old }
-    ensures order { L.acts machine.new ≡ after_rounds lock (length parts.old) times (L.acts machine.old) }
+    ensures counted { sections_at lock (L.seen machine.new)
+        ≡ sections_at lock (L.seen machine.old) + times * length parts.old }
+    ensures order { L.acts machine.new
+        ≡ after_rounds lock (length parts.old) times (L.acts machine.old) }
 {
     let mut payload = Payload::new();
     for _ in 0..times {
@@ -67,7 +70,8 @@ fn rounds<L: LockLayer<AddOne>>(parts: &mut [L], machine: &mut L::Machine, lock:
 fn parts_of<L: LockLayer<AddOne> + Drop>(alloc: Global, cpus: u8) -> Result<Vec<L>, AllocError>
     ensures long { IfOk result (λ parts. length parts.items ≡ cpus) }
     ensures ready { IfOk result (λ parts. (m : _) → ((c : CpuId) → c.0 < cpus → L.ActsFor m c)
-        → ((c : CpuId) → c.0 < cpus → L.IsOutside m c) → AreReady L.cpu_of L.under_way L.Fits parts.items m) }
+        → ((c : CpuId) → c.0 < cpus → L.IsOutside m c)
+        → AreReady L.cpu_of L.under_way L.Fits parts.items m) }
 {
     let mut parts = Vec::with_capacity(alloc, cpus as usize)?;
     for number in 0..cpus {

@@ -63,7 +63,8 @@ pub fn run_plan<O: Write>(
 ) -> Result<State, Fault>
     requires live { has_failed out.old ≡ false }
     requires few { length steps.now ≤ MOST_STEPS }
-    ensures { RunsOverTower (plan_of plan.now) steps.now result (between O.contents out.old out.new) }
+    ensures { RunsOverTower (plan_of plan.now) steps.now result
+        (between O.contents out.old out.new) }
 {
     let boot = Boot::read(alloc, plan)?;
     let mut run = PlanRun {

@@ -32,7 +32,8 @@ where
     requires few { threads ≤ THREADS }
     requires threads { length system.now.homes ≡ threads }
     ensures count { length result ≡ THREADS }
-    ensures read { (t : ℕ) (d : Place) → t < threads → IsPlaceOf system.now (record { 0 = t }) (slice_index_or result t d) }
+    ensures read { (t : ℕ) (d : Place) → t < threads
+        → IsPlaceOf system.now (record { 0 = t }) (slice_index_or result t d) }
 {
     let mut places = [Place::Ended; THREADS];
     for t in 0..threads {

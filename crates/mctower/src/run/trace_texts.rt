@@ -16,7 +16,8 @@ use tracer::{Sink, gather, write_trace};
 /// A law: the judge says yes to the text of any traces. Therefore `check` says yes to each text
 /// that a run of steps or a run in threads writes with success.
 pub fn texts_get_yes()
-    ensures { (text caps : List ℕ) (traces : List (List AnEntry)) (left : List (List Message)) → IsTextOf caps traces left text
+    ensures { (text caps : List ℕ) (traces : List (List AnEntry)) (left : List (List Message))
+        → IsTextOf caps traces left text
         → verdict_of text ≡ SaysYes }
 {}
 
@@ -53,7 +54,8 @@ pub(crate) fn write_text<W: Write>(
 ) -> Result<(), Fault>
     requires live { has_failed sink.old ≡ false }
     requires text { HaveText caps.now (traces_in traces.now) (map (λ v. v.items) left.now) }
-    ensures { Writes caps.now (traces_in traces.now) (map (λ v. v.items) left.now) result (between W.contents sink.old sink.new) }
+    ensures { Writes caps.now (traces_in traces.now) (map (λ v. v.items) left.now) result
+        (between W.contents sink.old sink.new) }
 {
     let order = gather(alloc, traces)?;
     values_fit(&order);
@@ -75,8 +77,10 @@ pub(crate) fn write_lists<W: Write>(
     sink: &mut Sink<W>,
 ) -> Result<(), Fault>
     requires live { has_failed sink.old ≡ false }
-    requires text { HaveText caps.now (map (λ trace. trace.items) traces.now) (map (λ v. v.items) left.now) }
-    ensures { Writes caps.now (map (λ trace. trace.items) traces.now) (map (λ v. v.items) left.now) result (between W.contents sink.old sink.new) }
+    requires text { HaveText caps.now (map (λ trace. trace.items) traces.now)
+        (map (λ v. v.items) left.now) }
+    ensures { Writes caps.now (map (λ trace. trace.items) traces.now) (map (λ v. v.items) left.now)
+        result (between W.contents sink.old sink.new) }
 {
     let slices = slices_of(alloc, traces)?;
     write_text(alloc, caps, &slices, left, sink)
@@ -98,7 +102,8 @@ fn slices_of<'t>(alloc: Global, traces: &'t [Vec<Entry>]) -> Result<Vec<&'t [Ent
 // Each message is one, as its type says; a list of entries does not say so by itself. It computes
 // nothing.
 fn values_fit(entries: &[&Entry])
-    ensures { (k : ℕ) (d : AnEntry) → k < length (entries_in entries.now) → IsMessage (slice_index_or (entries_in entries.now) k d).value }
+    ensures { (k : ℕ) (d : AnEntry) → k < length (entries_in entries.now)
+        → IsMessage (slice_index_or (entries_in entries.now) k d).value }
 {
     for entry in entries {
         entry.value.fits();

@@ -38,7 +38,8 @@ pub(crate) fn put_out<O: Write>(
     done: Done,
 ) -> Result<Done, Refusal>
     requires { has_failed out.old ≡ false }
-    ensures put { Puts done (flat_map (λ p. p.now) pieces.now) result (between O.contents out.old out.new) }
+    ensures put { Puts done (flat_map (λ p. p.now) pieces.now) result
+        (between O.contents out.old out.new) }
     ensures flushed { IfOk result (λ _. is_flushed out.new ≡ true) }
 {
     match print(out, pieces) {

@@ -38,7 +38,8 @@ fn stop_word(stop: Stop) -> &'static str
 fn put_stops<W: Write>(sink: &mut Sink<W>, stops: &[Stop]) -> Result<(), WriteFault>
     requires { has_failed sink.old ≡ false }
     ensures failed { is_err result ≡ has_failed sink.new }
-    ensures out { WentOut W.contents sink.old sink.new (flat_map text_line (numbered stop_pieces 0 stops.now)) }
+    ensures out { WentOut W.contents sink.old sink.new
+        (flat_map text_line (numbered stop_pieces 0 stops.now)) }
 {
     for (c, stop) in stops.iter().enumerate() {
         put_cpu(sink, c as u64, stop_word(*stop))?;
@@ -62,7 +63,8 @@ pub(crate) fn write_stops<W: Write>(sink: &mut Sink<W>, stops: &[Stop])
 /// Returns what so many buffers of a report hold.
 fn left_in(report: &Report, buffers: usize) -> ArrayVec<ArrayVec<Msg, CAPACITY>, BUFFERS>
     requires { buffers ≤ BUFFERS }
-    ensures { map (λ v. v.items) result.items ≡ listed (λ b. items_of_block report.now.blocks.items (buffer_at b)) 0 buffers }
+    ensures { map (λ v. v.items) result.items
+        ≡ listed (λ b. items_of_block report.now.blocks.items (buffer_at b)) 0 buffers }
 {
     let mut left = ArrayVec::new();
     for buffer in 0..buffers {
@@ -110,7 +112,8 @@ fn work_bytes<O: Write, T: Threads + Wait + Sync>(
     out: &mut Sink<O>,
 ) -> Result<Done, Refusal>
     requires { has_failed out.old ≡ false }
-    ensures works { OfBytes (WorksPlan turns) bytes.now result (between O.contents out.old out.new) }
+    ensures works { OfBytes (WorksPlan turns) bytes.now result
+        (between O.contents out.old out.new) }
     ensures flushed { IfOk result (λ _. is_flushed out.new ≡ true) }
 {
     let Ok(plan) = str::from_utf8(bytes) else {
@@ -143,7 +146,8 @@ pub fn serve_threads<R: Read, O: Write, T: Threads + Wait + Sync>(
     out: &mut Sink<O>,
 ) -> Result<Done, Refusal>
     requires { has_failed out.old ≡ false }
-    ensures works { OfInput (WorksPlan turns) (R.remaining input.old) result (between O.contents out.old out.new) }
+    ensures works { OfInput (WorksPlan turns) (R.remaining input.old) result
+        (between O.contents out.old out.new) }
     ensures flushed { IfOk result (λ _. is_flushed out.new ≡ true) }
 {
     let bytes = match read_all(alloc, input) {

@@ -29,7 +29,8 @@ fn fault_name(fault: GuestFault) -> &'static str
 /// Writes the line of an error of this name, and of a key that is in no thread's table.
 fn put_key<W: Write>(sink: &mut Sink<W>, name: &'static str, key: &'static str)
     requires { has_failed sink.old ≡ false }
-    ensures { IsTold (between W.contents sink.old sink.new) (codes "error: " ++ (name.now ++ (key.now ++ 10 ∷ []))) }
+    ensures { IsTold (between W.contents sink.old sink.new)
+        (codes "error: " ++ (name.now ++ (key.now ++ 10 ∷ []))) }
 {
     let name = name.as_bytes();
     let key = key.as_bytes();
@@ -40,7 +41,8 @@ fn put_key<W: Write>(sink: &mut Sink<W>, name: &'static str, key: &'static str)
 fn put_thread_key<W: Write>(sink: &mut Sink<W>, name: &'static str, thread: Tid, key: &'static str)
     requires { has_failed sink.old ≡ false }
     ensures { IsTold (between W.contents sink.old sink.new)
-        (codes "error: " ++ (name.now ++ (codes "thread " ++ (decimal thread.0 ++ (key.now ++ 10 ∷ []))))) }
+        (codes "error: " ++ (name.now
+        ++ (codes "thread " ++ (decimal thread.0 ++ (key.now ++ 10 ∷ []))))) }
 {
     let mut number = Buffer::new();
     let number = number.format(thread.0).as_bytes();

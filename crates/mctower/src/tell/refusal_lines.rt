@@ -45,7 +45,8 @@ fn kind_words(kind: ErrorKind) -> &'static str
 /// Puts out a line with what is wrong and what it names, and the usage of the words' command.
 fn put_fault<W: Write>(sink: &mut Sink<W>, words: &[&str], what: &'static str, named: Shown)
     requires { has_failed sink.old ≡ false }
-    ensures { IsTold (between W.contents sink.old sink.new) (fault_lines (map (λ w. w.now) words.now) what.now named.bytes) }
+    ensures { IsTold (between W.contents sink.old sink.new)
+        (fault_lines (map (λ w. w.now) words.now) what.now named.bytes) }
 {
     let what = what.as_bytes();
     let named = named.as_str().as_bytes();
@@ -60,7 +61,8 @@ fn put_fault<W: Write>(sink: &mut Sink<W>, words: &[&str], what: &'static str, n
 /// command.
 fn put_value_fault<W: Write>(sink: &mut Sink<W>, words: &[&str], option: ValueOption, value: Shown)
     requires { has_failed sink.old ≡ false }
-    ensures { IsTold (between W.contents sink.old sink.new) (value_lines (map (λ w. w.now) words.now) option value.bytes) }
+    ensures { IsTold (between W.contents sink.old sink.new)
+        (value_lines (map (λ w. w.now) words.now) option value.bytes) }
 {
     let name = option_name(option).as_bytes();
     let value = value.as_str().as_bytes();
@@ -85,7 +87,8 @@ fn put_value_fault<W: Write>(sink: &mut Sink<W>, words: &[&str], option: ValueOp
 /// Requires: the sink has not failed.
 fn write_fault<W: Write>(sink: &mut Sink<W>, words: &[&str], fault: LineFault)
     requires { has_failed sink.old ≡ false }
-    ensures { IsTold (between W.contents sink.old sink.new) (fault_text (map (λ w. w.now) words.now) fault) }
+    ensures { IsTold (between W.contents sink.old sink.new)
+        (fault_text (map (λ w. w.now) words.now) fault) }
 {
     match fault {
         LineFault::NotText => put_fault(sink, words, "a word is not UTF-8 text", Shown::new()),
@@ -100,7 +103,8 @@ fn write_fault<W: Write>(sink: &mut Sink<W>, words: &[&str], fault: LineFault)
 /// Requires: the sink has not failed.
 pub(crate) fn write_report<W: Write>(sink: &mut Sink<W>, words: &[&str], refusal: Refusal)
     requires { has_failed sink.old ≡ false }
-    ensures { PutsRefusal (map (λ w. w.now) words.now) refusal (between W.contents sink.old sink.new) }
+    ensures { PutsRefusal (map (λ w. w.now) words.now) refusal
+        (between W.contents sink.old sink.new) }
 {
     match refusal {
         Refusal::BadLine(fault) => write_fault(sink, words, fault),

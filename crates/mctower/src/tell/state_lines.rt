@@ -138,7 +138,8 @@ fn put_thread<W: Write>(sink: &mut Sink<W>, thread: u64, place: Place) -> Result
 fn put_cpus<W: Write>(sink: &mut Sink<W>, halted: &[Option<Reason>]) -> Result<(), WriteFault>
     requires { has_failed sink.old ≡ false }
     ensures failed { is_err result ≡ has_failed sink.new }
-    ensures out { WentOut W.contents sink.old sink.new (flat_map text_line (numbered halted_pieces 0 halted.now)) }
+    ensures out { WentOut W.contents sink.old sink.new
+        (flat_map text_line (numbered halted_pieces 0 halted.now)) }
 {
     for (c, halted) in halted.iter().enumerate() {
         put_cpu(sink, c as u64, halted_word(*halted))?;
@@ -150,7 +151,8 @@ fn put_cpus<W: Write>(sink: &mut Sink<W>, halted: &[Option<Reason>]) -> Result<(
 fn put_threads<W: Write>(sink: &mut Sink<W>, places: &[Place]) -> Result<(), WriteFault>
     requires { has_failed sink.old ≡ false }
     ensures failed { is_err result ≡ has_failed sink.new }
-    ensures out { WentOut W.contents sink.old sink.new (flat_map text_line (numbered thread_pieces 0 places.now)) }
+    ensures out { WentOut W.contents sink.old sink.new
+        (flat_map text_line (numbered thread_pieces 0 places.now)) }
 {
     for (t, place) in places.iter().enumerate() {
         put_thread(sink, t as u64, *place)?;
@@ -180,7 +182,8 @@ impl State {
     fn put<W: Write>(&self, sink: &mut Sink<W>) -> Result<(), WriteFault>
         requires { has_failed sink.old ≡ false }
         ensures failed { is_err result ≡ has_failed sink.new }
-        ensures out { WentOut W.contents sink.old sink.new (state_text self.now.halted.items (places_in self.now) self.now.is_quiet) }
+        ensures out { WentOut W.contents sink.old sink.new
+            (state_text self.now.halted.items (places_in self.now) self.now.is_quiet) }
     {
         put_cpus(sink, self.halted.as_slice())?;
         put_threads(sink, &self.places[..self.threads])?;
@@ -193,7 +196,8 @@ impl State {
     /// Requires: the sink has not failed.
     pub fn write_report<W: Write>(&self, sink: &mut Sink<W>)
         requires { has_failed sink.old ≡ false }
-        ensures { IsTold (between W.contents sink.old sink.new) (state_text self.now.halted.items (places_in self.now) self.now.is_quiet) }
+        ensures { IsTold (between W.contents sink.old sink.new)
+            (state_text self.now.halted.items (places_in self.now) self.now.is_quiet) }
     {
         if let Ok(()) = self.put(sink) {
             let _ = sink.flush();

@@ -1,5 +1,4 @@
-use Rattle.std.proofs.Common.{Ok, Err, refl}
-use Rattle.mctower.{specs.{Output.between, Running.NoCondition}, proofs.Unguarded.{fault_told, runs_alike, state_of}}
+use Rattle.{std.proofs.Common.{Ok, Err, refl}, mctower.{specs.{Output.between, Running.NoCondition}, proofs.Unguarded.{fault_told, runs_alike, state_of}}}
 use Rattle.mctower.proofs.run.plan_runs.PlanRunOverTower.over.Goals as goal
 
 pub returns-in_err-system : goal.returns-in_err-system
