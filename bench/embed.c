@@ -1,11 +1,12 @@
 /* Messages per second through one buffer, for bench/embed.sh: over the tower, or with -DPLAIN over a mutex and two condition variables. It prints the rate,
    and how many processors were busy.
 
-   embed PRODUCERS CONSUMERS CAPACITY MESSAGES
+   embed PRODUCERS CONSUMERS CAPACITY SECONDS
    embed alone         a send and a receive by one caller, a rejected call, and an opening and an end for 16 callers: nanoseconds each */
 #define _GNU_SOURCE
 #include <pthread.h>
 #include <stdatomic.h>
+#include <stdbool.h>
 #include <stdint.h>
 #include <stdio.h>
 #include <stdlib.h>
@@ -15,9 +16,9 @@
 
 enum { MOST = 32 };
 static unsigned producers, consumers, capacity;
-static uint64_t each;
 static atomic_uint done;
-static atomic_ullong sum, received;
+static atomic_bool is_over;
+static atomic_ullong sum, sent, received;
 
 static double now(void) {
   struct timespec t;
@@ -90,15 +91,27 @@ static void run(caller *c, size_t number) {
   size_t count;
   if (number >= producers) {
     for (; !receive_one(c, words, &count); many++) own += words[0];
-    sum += own;
+    sum -= own;
     received += many;
     return;
   }
-  for (uint64_t i = 0; i < each; i++) {
-    words[0] = i;
+  for (; !atomic_load_explicit(&is_over, memory_order_relaxed); many++) {
+    words[0] = many;
+    own += many;
     send_one(c, words, 1);
   }
+  sum += own;
+  sent += many;
   if (++done == producers) close_all(c);
+}
+
+/* Ends the sends after a time. */
+static void *clocks(void *seconds) {
+  double all = *(double *)seconds;
+  struct timespec time = {all, 1e9 * (all - (time_t)all)};
+  nanosleep(&time, 0);
+  is_over = 1;
+  return 0;
 }
 
 #ifdef PLAIN
@@ -122,12 +135,12 @@ static int run_all(unsigned all) {
 }
 
 static double opened(unsigned callers, unsigned many) {
-  uint8_t capacities[16];
-  memset(capacities, 32, sizeof capacities);
+  uint8_t capacities[TOWER_BUFFERS];
+  memset(capacities, TOWER_CAPACITY, sizeof capacities);
   double began = now();
   for (unsigned k = 0; k < many; k++) {
     tower *t;
-    if (tower_open(&t, capacities, callers, callers)) exit(1);
+    if (tower_open(&t, capacities, TOWER_BUFFERS, callers)) exit(1);
     tower_shut(t, 0);
   }
   return (now() - began) / many;
@@ -147,7 +160,7 @@ static int alone(void) {
   for (int k = 0; k < CALLS; k++) tower_send(c, 9, words, 1);
   double rejected = now() - began;
   tower_leave(c), tower_shut(t, 0);
-  printf("%.0f %.0f %.0f\n", 1e9 * pair / CALLS, 1e9 * rejected / CALLS, 1e9 * opened(16, OPENINGS));
+  printf("%.0f %.0f %.0f\n", 1e9 * pair / CALLS, 1e9 * rejected / CALLS, 1e9 * opened(TOWER_CALLERS, OPENINGS));
   return 0;
 }
 #endif
@@ -157,13 +170,15 @@ int main(int words, char **word) {
   if (words == 2 && !strcmp(word[1], "alone")) return alone();
   if (words != 5) return 2;
   producers = atoi(word[1]), consumers = atoi(word[2]), capacity = atoi(word[3]);
-  each = atoll(word[4]) / producers;
-  double began = now();
+  double duration = atof(word[4]), began = now();
+  pthread_t clock;
+  pthread_create(&clock, 0, clocks, &duration);
   int status = run_all(producers + consumers);
   double took = now() - began;
+  pthread_join(clock, 0);
   getrusage(RUSAGE_SELF, &used);
   double busy = used.ru_utime.tv_sec + used.ru_utime.tv_usec / 1e6 + used.ru_stime.tv_sec + used.ru_stime.tv_usec / 1e6;
-  if (status || received != each * producers || sum != producers * (each * (each - 1) / 2)) return printf("messages are lost, or status %d\n", status), 1;
+  if (status || received != sent || sum) return printf("messages are lost, or status %d\n", status), 1;
   printf("%.0f %.2f\n", received / took, busy / took);
   return 0;
 }

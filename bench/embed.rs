@@ -1,6 +1,7 @@
 //! The same as bench/embed.c, for bench/embed.sh: over std's `sync_channel`, whose receivers share one behind a mutex, or with `--cfg crossbeam` over
 //! crossbeam-channel's `bounded`.
-use std::time::Instant;
+use std::sync::atomic::{AtomicBool, Ordering};
+use std::time::{Duration, Instant};
 
 #[derive(Clone, Copy)]
 struct Message {
@@ -34,10 +35,16 @@ mod channel {
 
 use channel::{bounded, received, Receiver, Sender};
 
-fn send_all(to: Sender<Message>, each: u64) {
-    for number in 0..each {
-        to.send(Message { count: 1, words: [number, 0, 0, 0, 0, 0, 0, 0] }).unwrap();
+static IS_OVER: AtomicBool = AtomicBool::new(false);
+
+fn send_all(to: Sender<Message>) -> (u64, u64) {
+    let (mut sum, mut many) = (0, 0);
+    while !IS_OVER.load(Ordering::Relaxed) {
+        to.send(Message { count: 1, words: [many, 0, 0, 0, 0, 0, 0, 0] }).unwrap();
+        sum += many;
+        many += 1;
     }
+    (sum, many)
 }
 
 fn receive_all(from: Receiver<Message>) -> (u64, u64) {
@@ -57,17 +64,21 @@ fn busy() -> f64 {
 }
 
 fn main() {
-    let words: Vec<usize> = std::env::args().skip(1).map(|word| word.parse().unwrap()).collect();
-    let (producers, consumers, capacity, each) = (words[0], words[1], words[2], (words[3] / words[0]) as u64);
+    let words: Vec<f64> = std::env::args().skip(1).map(|word| word.parse().unwrap()).collect();
+    let (producers, consumers, capacity) = (words[0] as usize, words[1] as usize, words[2] as usize);
     let began = Instant::now();
     let (to, from) = bounded::<Message>(capacity);
-    let (sum, many) = std::thread::scope(|s| {
-        (0..producers).map(|_| to.clone()).for_each(|to| drop(s.spawn(move || send_all(to, each))));
+    let total = |all: (u64, u64), own: (u64, u64)| (all.0 + own.0, all.1 + own.1);
+    let (sent, got) = std::thread::scope(|s| {
+        let senders: Vec<_> = (0..producers).map(|_| to.clone()).map(|to| s.spawn(move || send_all(to))).collect();
         drop(to);
-        let threads: Vec<_> = (0..consumers).map(|_| from.clone()).map(|from| s.spawn(move || receive_all(from))).collect();
-        threads.into_iter().map(|it| it.join().unwrap()).fold((0, 0), |all, own| (all.0 + own.0, all.1 + own.1))
+        let receivers: Vec<_> = (0..consumers).map(|_| from.clone()).map(|from| s.spawn(move || receive_all(from))).collect();
+        std::thread::sleep(Duration::from_secs_f64(words[3]));
+        IS_OVER.store(true, Ordering::Relaxed);
+        let sent = senders.into_iter().map(|it| it.join().unwrap()).fold((0, 0), total);
+        (sent, receivers.into_iter().map(|it| it.join().unwrap()).fold((0, 0), total))
     });
     let took = began.elapsed().as_secs_f64();
-    assert_eq!((sum, many), (producers as u64 * (each * (each - 1) / 2), producers as u64 * each));
-    println!("{:.0} {:.2}", many as f64 / took, busy() / took);
+    assert_eq!(sent, got);
+    println!("{:.0} {:.2}", got.1 as f64 / took, busy() / took);
 }

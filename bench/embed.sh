@@ -1,20 +1,23 @@
 #!/usr/bin/env bash
 # Measures messages of one word per second through one buffer: over embed/ (tower), a pthread mutex with two condition variables (mutex), std's sync_channel
-# (std) and crossbeam-channel (crossbeam; Debian: librust-crossbeam-channel-dev), alternating. A row has the producers and consumers, the capacity, and the
-# best and the median rate of each, in thousands. Then it measures one caller: a send with a receive, a rejected call, an opening for 16 callers.
-# Build first: embed/build.py. It takes some minutes. The first line says how busy the machine is.
+# (std) and crossbeam-channel (crossbeam; Debian: librust-crossbeam-channel-dev), alternating. A row has the processors, whether a busy loop runs beside it for
+# each of them, the producers and consumers, the capacity, and the best and the median rate of each, in thousands. Then it measures one caller: a send with a
+# receive, a rejected call, an opening for 16 callers. Build first: embed/build.py. A measurement takes SECONDS_EACH, or 0.5, so it takes RUNS minutes. The
+# first line says how busy the machine is.
 #
-#   bench/embed.sh [RUNS [CPUS..]]     5 runs, on the processors 0,1 and 0-3
-#   bench/embed.sh 3 2,3               3 runs, on the processors 2 and 3
+#   bench/embed.sh [RUNS [CPUS..]]             3 runs, on the processors 0,1 and 0-3, quiet and busy
+#   LOADS=quiet bench/embed.sh 5 2,3           5 runs, on the processors 2 and 3, with no busy loops
 if [ "${1:-}" = --help ]; then sed -n '2,/^[^#]/ s/^# \{0,1\}//p' "$0"; exit; fi
 set -eu
 export LC_ALL=C
 cd "$(dirname "$0")"
-runs=${1:-5}; shift || true
+runs=${1:-3}; shift || true
 [ $# -gt 0 ] || set -- 0,1 0-3
 library=../embed/out
 [ -f $library/libtower.a ] || { echo "build embed/out first: embed/build.py"; exit 1; }
-work=$(mktemp -d); trap 'rm -rf "$work"' EXIT
+work=$(mktemp -d); loops=()
+ends() { [ ${#loops[@]} = 0 ] || kill "${loops[@]}"; loops=(); }
+trap 'ends; rm -rf "$work"' EXIT
 cc -O2 -I$library embed.c $library/libtower.a -lpthread -o "$work/tower"
 cc -O2 -DPLAIN embed.c -lpthread -o "$work/mutex"
 programs=(tower mutex)
@@ -43,24 +46,40 @@ else
 fi
 
 # The best and the median of the numbers in the file $1, in thousands; a run that did not end in time counts as 0.
-best_and_median() { sort -n "$1" | awk '{ all[NR] = $1 } END { printf "%.0f (%.0f)", all[NR] / 1000, all[int((NR + 1) / 2)] / 1000 }'; }
+best_and_median() {
+  sort -n "$1" | awk 'function told(n) { return sprintf(n < 9950 ? "%.1f" : "%.0f", n / 1000) }
+    { all[NR] = $1 } END { printf "%s (%s)", told(all[NR]), told(all[int((NR + 1) / 2)]) }'
+}
+
+# Prints a row.
+row() {
+  rm -f "$work"/*.rates
+  for _ in $(seq "$runs"); do
+    for program in "${programs[@]}"; do
+      rate=$(timeout 60 taskset -c "$cpus" "$work/$program" $pairs $pairs $capacity "${SECONDS_EACH:-0.5}") || rate="0 0"
+      echo "${rate% *}" >> "$work/$program.rates"
+    done
+  done
+  printf '| %s' "$cpus" "$load" "$pairs:$pairs" "$capacity"
+  for program in "${programs[@]}"; do printf ' | %s' "$(best_and_median "$work/$program.rates")"; done; echo ' |'
+}
 
 echo "load $(cut -d' ' -f1-3 /proc/loadavg) on $(nproc) processors; thousands of messages per second, best (median) of $runs"
-printf '| %s' processors pairs capacity "${programs[@]}"; echo ' |'
+printf '| %s' processors load pairs capacity "${programs[@]}"; echo ' |'
 for cpus in "$@"; do
-  for pairs in 1 2 4; do
-    for capacity in 1 32; do
-      messages=$((capacity == 1 ? 4000 : 30000))
-      rm -f "$work"/*.rates
-      for _ in $(seq "$runs"); do
-        for program in "${programs[@]}"; do
-          rate=$(timeout 60 taskset -c "$cpus" "$work/$program" $pairs $pairs $capacity $messages) || rate="0 0"
-          echo "${rate% *}" >> "$work/$program.rates"
-        done
+  for load in ${LOADS:-quiet busy}; do
+    if [ "$load" = busy ]; then
+      for _ in $(seq "$(taskset -c "$cpus" nproc)"); do
+        taskset -c "$cpus" bash -c 'while :; do :; done' &
+        loops+=($!)
       done
-      printf '| %s' "$cpus" "$pairs:$pairs" "$capacity"
-      for program in "${programs[@]}"; do printf ' | %s' "$(best_and_median "$work/$program.rates")"; done; echo ' |'
+    fi
+    for pairs in 1 2 4; do
+      for capacity in 1 32; do
+        row
+      done
     done
+    ends
   done
 done
 read -r pair rejected opening < <("$work/tower" alone)

@@ -4,13 +4,15 @@
 //!
 //! fast_check < trace
 
+#[path = "../plans/limits.rs"]
+mod limits;
+
+use limits::{CAPACITY, CPUS, THREADS};
 use std::io::Read;
 
 const PART: usize = 65_536;
-const CAPACITY: usize = 32;
+/// Words of a message at most, fixed by the format.
 const WORDS: usize = 8;
-const CPUS: u64 = 16;
-const THREADS: u64 = 256;
 /// So many digits stay below 2^64.
 const SHORT: usize = 19;
 
@@ -215,7 +217,7 @@ impl Judge {
         line.byte(b' ')?;
         let thread = line.number()?;
         line.byte(b' ')?;
-        if cpu >= CPUS || thread >= THREADS {
+        if cpu >= CPUS as u64 || thread >= THREADS as u64 {
             return None;
         }
         let kind = line.kind()?;

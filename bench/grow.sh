@@ -1,5 +1,5 @@
 #!/usr/bin/env bash
-# Measures how a step's cost grows with the system: instructions a step (callgrind) of `mctower run`, from 1 to 16 CPUs and from 1 to 256 threads, and
+# Measures how a step's cost grows with the system: instructions a step (callgrind) of `mctower run`, from one CPU and one thread to the limits, and
 # the peak of memory of full traces. Each number is the difference of two whole runs of which one takes 65,536 steps more, so opening is left out; what
 # gathers and writes entries is in. It takes some minutes, and other work does not disturb the counts.
 # Build first: (cd crates/mctower && rt run -- count --cpus 1 --times 1).
@@ -18,19 +18,20 @@ program=$(realpath "${1:-crates/mctower/out/mctower}" 2> /dev/null) && [ -x "$pr
 }
 work=$(mktemp -d); trap 'rm -rf "$work"' EXIT
 more=65536
+eval "$(tools/limit-table.py --shell)"
 
 # The plan of $1 for $2 CPUs and $3 threads.
 plan() {
   local t cpu lines
-  printf 'cpus = %d\ntrace = 65536\nbuffers = [32, 32, 32, 32, 32, 32, 32, 32, 32, 32, 32, 32, 32, 32, 32, 32]\n' "$2"
+  printf 'cpus = %d\ntrace = %d\nbuffers = [%s]\n' "$2" "$TRACE" "$(yes "$CAPACITY" | head -n "$BUFFERS" | paste -sd ,)"
   for ((t = 0; t < $3; t++)); do
     cpu=$((t % $2))
     [ "$1" != last ] || cpu=$((t == $3 - 1 ? $2 - 1 : 0))
     case $1 in
-      calls) lines="\"set r1 1\", \"send $((t % 16)) r1\", \"recv $((t % 16)) r2\", \"yield\", \"jnz r1 1\"" ;;
+      calls) lines="\"set r1 1\", \"send $((t % BUFFERS)) r1\", \"recv $((t % BUFFERS)) r2\", \"yield\", \"jnz r1 1\"" ;;
       yields) lines='"set r1 1", "yield", "jnz r1 1"' ;;
       ended) lines='"exit"' ;;
-      *) lines="\"recv $((t % 16)) r0\"" ;;
+      *) lines="\"recv $((t % BUFFERS)) r0\"" ;;
     esac
     printf '\n[[thread]]\ncpu = %d\nprogram = [%s]\n' $cpu "$lines"
   done
@@ -59,25 +60,25 @@ step() {
 }
 
 for kind in calls yields idle ended; do
-  printf '%-7s with 32 threads, on 1, 2, 4, 8, 16 CPUs:' $kind
-  for cpus in 1 2 4 8 16; do step $kind $cpus 32; done; echo
+  printf '%-7s with 32 threads, on 1, 2, 4, 8, %d CPUs:' $kind "$CPUS"
+  for cpus in 1 2 4 8 "$CPUS"; do step $kind $cpus 32; done; echo
 done
 for kind in calls yields idle ended; do
-  printf '%-7s on one CPU, with 1, 4, 16, 64, 256 threads:' $kind
-  for threads in 1 4 16 64 256; do step $kind 1 $threads; done; echo
+  printf '%-7s on one CPU, with 1, 4, 16, 64, %d threads:' $kind "$THREADS"
+  for threads in 1 4 16 64 "$THREADS"; do step $kind 1 $threads; done; echo
 done
-printf '%-7s on two CPUs, with 2, 4, 16, 64, 256 threads:' last
-for threads in 2 4 16 64 256; do step last 2 $threads; done; echo
+printf '%-7s on two CPUs, with 2, 4, 16, 64, %d threads:' last "$THREADS"
+for threads in 2 4 16 64 "$THREADS"; do step last 2 $threads; done; echo
 
 # A system with as many CPUs and threads as there may be: opened, run by workers until each trace is full, and the text judged.
-plan calls 16 256 > "$work/plan"
+plan calls "$CPUS" "$THREADS" > "$work/plan"
 # Runs the program on the file $2, and tells of it as $1.
 tells() {
   local name=$1 input=$2; shift 2
   /usr/bin/time -q -f '%e %M' -o "$work/cost" "$program" "$@" < "$input" > "$work/out" 2> "$work/err" || true
   awk -v name="$name" '{ printf "%s: %s s, %.0f MB at most\n", name, $1, $2 / 1024 }' "$work/cost"
 }
-tells '16 CPUs, 256 threads, traces of 65,536 entries, opened' "$work/plan" run
+tells "$CPUS CPUs, $THREADS threads, traces of $TRACE entries, opened" "$work/plan" run
 tells 'until each trace is full, by workers' "$work/plan" threads --turns 1000000000
 mv "$work/out" "$work/text"
 printf '  %d entries, %d traces full\n' "$(grep -c '^e ' "$work/text")" "$(grep -c TraceFull "$work/err")"

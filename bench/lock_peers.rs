@@ -10,6 +10,10 @@
 //!
 //! rustc -O lock_peers.rs
 
+#[path = "../plans/limits.rs"]
+mod limits;
+
+use limits::CPUS;
 use std::cell::UnsafeCell;
 use std::env;
 use std::hint;
@@ -17,8 +21,6 @@ use std::ptr;
 use std::sync::atomic::{AtomicBool, AtomicPtr, AtomicU32, AtomicU64, Ordering::SeqCst};
 use std::sync::{Barrier, Mutex};
 use std::thread;
-
-const CPUS: usize = 16;
 
 /// How often a waiter polls, as a worker of `count` does.
 const POLLS: u32 = 10_000;

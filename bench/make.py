@@ -10,16 +10,21 @@ The kinds of plans and their schedules:
     misses    8 CPUs, 64 threads, 16 buffers. Each buffer's threads are on several CPUs, whose 128 steps end inside sections, so that nearly each
               step is a failed poll; 1,048,576 steps. This is the default
     through   the same CPUs, each with two buffers that no other CPU uses, so that messages get through
-    across    16 CPUs, 256 threads, 16 buffers, whose threads are on several CPUs; 1,048,576 steps, 128 at a time
+    across    as many CPUs, threads and buffers as there may be, with threads on several CPUs; 1,048,576 steps, 128 at a time
     turns     1 CPU, where one thread sends and one receives through a buffer of one place; 1,048,576 steps
     singly    the plan of through, and 65,520 steps, each on another CPU than the one before
     once      the plan of misses, and one step
 """
 import argparse
 import itertools
+import sys
 from dataclasses import dataclass
+from pathlib import Path
 
-STEPS = 1 << 20
+sys.path.append(str(Path(__file__).resolve().parent.parent / "plans"))
+from limits import BUFFERS, CAPACITY, CPUS, MOST_STEPS, THREADS, TRACE  # noqa: E402
+
+STEPS = MOST_STEPS
 STRETCH = 128
 SINGLE_STEPS = 65_520
 FILL_CPUS, FILL_BUFFERS, FILL_CAPACITY, FILLS = 8, 16, 32, 512
@@ -50,11 +55,12 @@ class Shape:
 
 MISSES = Shape(8, 64, 16, 32, False)
 THROUGH = Shape(8, 64, 16, 32, True)
-SHAPES = {"misses": MISSES, "through": THROUGH, "across": Shape(16, 256, 16, 32, False), "turns": Shape(1, 2, 1, 1, True), "singly": THROUGH, "once": MISSES}
+ACROSS = Shape(CPUS, THREADS, BUFFERS, CAPACITY, False)
+SHAPES = {"misses": MISSES, "through": THROUGH, "across": ACROSS, "turns": Shape(1, 2, 1, 1, True), "singly": THROUGH, "once": MISSES}
 
 
 def plan(shape):
-    yield f"cpus = {shape.cpus}\ntrace = 65536\nbuffers = [{', '.join([str(shape.capacity)] * shape.buffers)}]"
+    yield f"cpus = {shape.cpus}\ntrace = {TRACE}\nbuffers = [{', '.join([str(shape.capacity)] * shape.buffers)}]"
     for thread in range(shape.threads):
         cpu, buffer, receives = shape.placed(thread)
         call = "recv" if receives else "send"

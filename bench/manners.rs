@@ -1,8 +1,8 @@
-//! How a CPU asks for a buffer's lock, a policy that `mctower` does not have. Where its asks keep
-//! finding an owner, it lets other threads run before it asks, until no CPU draws at the lock.
+//! How a CPU asks for a buffer's lock, a policy like that of `mctower`. Where its asks keep finding an
+//! owner, it pauses before it asks, until no CPU draws at the lock.
 
+use std::hint;
 use std::sync::atomic::{AtomicU64, Ordering::SeqCst};
-use std::thread;
 
 /// After so many asks it is judged whether to wait before the next ones.
 const WATCHED: u16 = 32;
@@ -18,9 +18,9 @@ const LAST_REST: u16 = 32_000;
 /// For how many pauses the sleeper to whom the CPU handed the lock may take to come.
 const PATIENCE: u16 = 4;
 
-/// How many pauses a wait has at most, and how often a pause lets other threads run.
+/// How many pauses a wait has at most, and how many spin loops a pause has.
 const MOST_PAUSES: u16 = 100;
-const YIELDS: u16 = 6;
+const LOOPS: u16 = 96;
 
 /// What a CPU keeps of its asks for the lock of one buffer.
 #[derive(Clone)]
@@ -111,7 +111,7 @@ impl Asks {
 fn await_still(next: &AtomicU64, first: u64, patience: u16) {
     let (mut seen, mut left) = (first, patience);
     for _ in 0..MOST_PAUSES {
-        (0..YIELDS).for_each(|_| thread::yield_now());
+        (0..LOOPS).for_each(|_| hint::spin_loop());
         let now = next.load(SeqCst);
         left = if now == seen { left - 1 } else { 1 };
         if left == 0 {

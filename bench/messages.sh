@@ -5,13 +5,13 @@
 #
 #   bench/messages.sh [--patterns | --peers] [--busy] [MESSAGES] [CAPACITY] [LOCK] [TURNS]
 #
-# MESSAGES go through each buffer, at most 32,768 (default: 5,000); a buffer holds CAPACITY (default: 32). LOCK is the plan's key, `ticket` or `grant`
-# (default: grant). With --patterns it measures, on two processors and on one: a pair, a pair with one home CPU, a ping-pong of two buffers, a pipe of
-# three CPUs, two senders and two receivers on four CPUs at one buffer, and four pairs on eight CPUs and on four; a pair and four pairs through buffers of
-# one place too. It takes some minutes. Measure threads that wait for each other on a quiet machine, or with priority: chrt --rr 1 bench/messages.sh.
-# With --peers it measures, on all processors, a pair and four pairs through buffers of CAPACITY places and of one place, compared with what a program
-# would take instead: a Mutex with two Condvars, and the standard library's sync_channel. It takes four minutes at most. With --busy as many busy loops run
-# beside what is measured as there are processors (not with chrt, which they would inherit).
+# MESSAGES go through each buffer, at most 32,768 (default: 5,000); a buffer holds CAPACITY (default: as many as one may). LOCK is the plan's key,
+# `ticket` or `grant` (default: grant). With --patterns it measures, on two processors and on one: a pair, a pair with one home CPU, a ping-pong of two
+# buffers, a pipe of three CPUs, two senders and two receivers on four CPUs at one buffer, and four pairs on eight CPUs and on four; a pair and four
+# pairs through buffers of one place too. It takes some minutes. Measure threads that wait for each other on a quiet machine, or with priority: chrt
+# --rr 1 bench/messages.sh. With --peers it measures, on all processors, a pair and four pairs through buffers of CAPACITY places and of one place,
+# compared with what a program would take instead: a Mutex with two Condvars, and the standard library's sync_channel. It takes four minutes at most.
+# With --busy as many busy loops run beside what is measured as there are processors (not with chrt, which they would inherit).
 # Build first: (cd crates/mctower && rt run -- count --cpus 1 --times 1).
 if [ "${1:-}" = --help ]; then sed -n '2,/^[^#]/ s/^# \{0,1\}//p' "$0"; exit; fi
 set -eu
@@ -21,7 +21,8 @@ patterns=no; [ "${1:-}" != --patterns ] || { patterns=yes; shift; }
 peers=no; [ "${1:-}" != --peers ] || { peers=yes; shift; }
 busy=no; [ "${1:-}" != --busy ] || { busy=yes; shift; }
 messages=${1:-5000}
-capacity=${2:-32}
+eval "$(../tools/limit-table.py --shell)"
+capacity=${2:-$CAPACITY}
 lock=${3:-grant}
 turns=${4:-51}
 rustc -O -o "$work/messages" messages.rs
@@ -32,7 +33,7 @@ polite=("${same[@]}" manners)
 mine=(timeout 60 "$ours" threads --turns 1000000000)
 
 # Writes the head of a plan with $1 CPUs and $2 buffers.
-head_of() { printf 'lock = "%s"\ncpus = %d\ntrace = 65536\nbuffers = [%s]\n' "$lock" "$1" "$(yes "$capacity" | head -n "$2" | paste -sd ,)"; }
+head_of() { printf 'lock = "%s"\ncpus = %d\ntrace = %d\nbuffers = [%s]\n' "$lock" "$1" "$TRACE" "$(yes "$capacity" | head -n "$2" | paste -sd ,)"; }
 # Writes a thread of CPU $1 that does the calls behind it, so many times.
 thread() { printf '[[thread]]\ncpu = %d\nprogram = ["set r0 %d", "set r1 1", %s, "sub r0 r1", "jnz r0 2"]\n' "$1" "$messages" "${*:2}"; }
 # Writes the plan of $1 pairs: of each the first thread sends to a buffer of their own and the second receives, on $2 CPUs each.

@@ -5,12 +5,15 @@
 //!
 //! plain_count CPUS TIMES ROUNDS [ticket|grant]
 
+#[path = "../plans/limits.rs"]
+mod limits;
+
+use limits::CPUS;
 use std::cell::UnsafeCell;
 use std::sync::Barrier;
 use std::sync::atomic::{AtomicU64, Ordering::SeqCst};
 
 const POLLS: u32 = 10_000;
-const CPUS: usize = 16;
 
 #[repr(align(64))]
 struct Word(AtomicU64);

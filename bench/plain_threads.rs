@@ -1,28 +1,68 @@
 //! A plain Rust program of the step table in threads, to measure `mctower threads` against: the same
-//! sections behind the same words of the same locks, a thread for each CPU that waits as a worker of
-//! `mctower` does, and the same text; no contracts, no layers. It takes turns without an end. With `manners`
-//! its CPUs wait before they ask for a buffer's lock, where that pays; without, they ask at once, as those of
-//! `mctower` do.
+//! sections behind the same words of the same locks, a thread for each CPU that waits and parks as a worker
+//! of `mctower` does, and the same text; no contracts, no layers. It takes turns without an end. With
+//! `manners` its CPUs back off before they request a buffer's lock, where that pays, as those of `mctower`
+//! do; without, they request it at once.
 //!
 //! plain_threads ticket|grant [manners] < plan > trace 2> stops
 
+#[path = "../plans/limits.rs"]
+mod limits;
 mod manners;
 #[path = "../tests/step_table.rs"]
 mod step_table;
 
+use limits::CPUS;
 use manners::Asks;
 use std::cell::UnsafeCell;
 use std::collections::VecDeque;
+use std::hint;
 use std::io::{Read, Write};
-use std::sync::Barrier;
+use std::sync::{Barrier, OnceLock};
 use std::sync::atomic::{AtomicU64, Ordering::SeqCst};
-use std::thread;
+use std::thread::{self, Thread};
 use step_table::{Buffer, Done, Entry, Guest, Instruction, Plan, Side, Stage, read_plan, write_trace};
-
-const CPUS: usize = 16;
 
 /// How often a worker looks before it lets others run.
 const SPINS: u32 = 10_000;
+
+/// How often an idle CPU checks its bell before it parks, with so many spin loops between two checks.
+const CHECKS: u16 = 1_000;
+const LOOPS: u16 = 10;
+
+/// Where an idle CPU parks. A CPU that has sent a thread home rings the bell there.
+#[repr(align(128))]
+struct Bell {
+    rings: AtomicU64,
+    parked: AtomicU64,
+    thread: OnceLock<Thread>,
+}
+
+impl Bell {
+    fn new() -> Bell {
+        Bell { rings: AtomicU64::new(0), parked: AtomicU64::new(0), thread: OnceLock::new() }
+    }
+
+    fn rings(&self) -> u64 {
+        self.rings.load(SeqCst)
+    }
+
+    fn ring(&self) {
+        self.rings.fetch_add(1, SeqCst);
+        if self.parked.load(SeqCst) != 0 && self.parked.swap(0, SeqCst) != 0 {
+            self.thread.get().unwrap().unpark();
+        }
+    }
+
+    /// Parks until the bell was rung more often than this.
+    fn park(&self, rung: u64) {
+        self.parked.store(1, SeqCst);
+        while self.rings() == rung {
+            thread::park();
+        }
+        self.parked.store(0, SeqCst);
+    }
+}
 
 #[derive(Clone, Copy)]
 enum Section {
@@ -87,6 +127,7 @@ struct Shared {
     pending: Vec<Slot<VecDeque<usize>>>,
     buffers: Vec<Slot<Buffer>>,
     homes: Vec<usize>,
+    bells: Vec<Bell>,
 }
 
 /// A CPU and its home threads.
@@ -104,6 +145,9 @@ struct Worker<'a, const GRANT: bool> {
     section: Section,
     trace: Vec<Entry>,
     guests: Vec<Option<Guest>>,
+    /// How often the bell was rung before the newest poll of the pending queue, and how many polls in a row were in vain.
+    rung: u64,
+    polls: u16,
 }
 
 impl<const GRANT: bool> Worker<'_, GRANT> {
@@ -242,6 +286,9 @@ impl<const GRANT: bool> Worker<'_, GRANT> {
                 self.section = Section::None;
                 self.free();
                 shared.locks[lock].give_on::<GRANT>(ticket);
+                if lock < shared.pending.len() && lock != self.c {
+                    shared.bells[lock].ring();
+                }
             }
             Section::None => self.begin(),
         }
@@ -269,14 +316,40 @@ impl<const GRANT: bool> Worker<'_, GRANT> {
         }
     }
 
-    /// Takes turns until the CPU is halted. It lets other threads run where it has looked in vain for long, and after each turn that
-    /// left it idle.
+    /// Before a poll of the pending queue of an idle CPU: after some polls in vain it waits for the bell.
+    fn before_poll(&mut self) {
+        let bell = &self.shared.bells[self.c];
+        if self.polls.is_power_of_two() && bell.rings() == self.rung {
+            for _ in 0..CHECKS {
+                (0..LOOPS).for_each(|_| hint::spin_loop());
+                if bell.rings() != self.rung {
+                    self.polls = 0;
+                    break;
+                }
+            }
+        }
+        self.rung = bell.rings();
+    }
+
+    /// After a turn that left the CPU idle: it parks unless it waits before the next poll.
+    fn after_idle(&mut self) {
+        self.polls = self.polls % 4_096 + 1;
+        if self.live > 0 && !self.polls.is_power_of_two() {
+            self.shared.bells[self.c].park(self.rung);
+        }
+    }
+
+    /// Takes turns until the CPU is halted. It lets other threads run where it has looked in vain for long, and parks where it is idle.
     fn work(&mut self) -> &'static str {
         let mut spins = SPINS;
+        let _ = self.shared.bells[self.c].thread.set(thread::current());
         loop {
             if !self.is_busy() {
                 if let Some(stop) = self.halted() {
                     return stop;
+                }
+                if self.is_idle() {
+                    self.before_poll();
                 }
             }
             self.step();
@@ -287,7 +360,7 @@ impl<const GRANT: bool> Worker<'_, GRANT> {
                 spins = 1;
             } else {
                 if self.is_idle() {
-                    thread::yield_now();
+                    self.after_idle();
                 }
                 spins = SPINS;
             }
@@ -301,6 +374,7 @@ fn shared_of<const GRANT: bool>(plan: &Plan) -> Shared {
         pending: (0..plan.cpus).map(|_| Slot(UnsafeCell::new(VecDeque::with_capacity(64)))).collect(),
         buffers: plan.capacities.iter().map(|&capacity| Slot(UnsafeCell::new(Buffer::new(capacity)))).collect(),
         homes: plan.threads.iter().map(|(home, _)| *home).collect(),
+        bells: (0..plan.cpus).map(|_| Bell::new()).collect(),
     }
 }
 
@@ -310,7 +384,7 @@ fn worker_of<'a, const GRANT: bool>(plan: &Plan, shared: &'a Shared, c: usize, i
     let ready: VecDeque<usize> = (0..guests.len()).filter(|&t| guests[t].is_some()).collect();
     let (live, section, trace) = (ready.len(), Section::None, Vec::with_capacity(plan.limit));
     let asks = vec![Asks::new(); plan.capacities.len()];
-    Worker { shared, c, limit: plan.limit, current: None, hand: None, ready, live, begun: 0, is_mannered, asks, section, trace, guests }
+    Worker { shared, c, limit: plan.limit, current: None, hand: None, ready, live, begun: 0, is_mannered, asks, section, trace, guests, rung: 0, polls: 0 }
 }
 
 fn run<const GRANT: bool>(plan: &Plan, is_mannered: bool) -> std::io::Result<()> {

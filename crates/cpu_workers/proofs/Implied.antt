@@ -1,10 +1,8 @@
 -- What follows from what.
 use Rattle.std.proofs.Common.{◌≡◌, List, [], ◌∷◌, ◌++◌, Bool, true, false, ◌==◌, ap, sym, refl, ◌∙◌, subst, append_assoc, arith, reverse}
-use Rattle.std.proofs.lemmas.List.{append-nil}
-use Rattle.std.specs.List.{AllByRecursion}
-use Rattle.event_log.specs.{declared.{entries.Entry.Entry, ids.CpuId.CpuId}, Actions.{Action, cpu_of_action}, History.same_cpu}
-use Rattle.cpu.specs.{Cpus.of_cpu, Tower.Views.TowerName}
-use Rattle.cpu_workers.specs.{Laws.{ActionsLetOrderGoOn, FrontsKeepOrder}, Orders.effects_of}
+use Rattle.std.{proofs.lemmas.List.append-nil, specs.List.AllByRecursion}
+use Rattle.{event_log.specs.{declared.{entries.Entry.Entry, ids.CpuId.CpuId}, Actions.{Action, cpu_of_action}, History.same_cpu}, cpu.specs.Cpus.of_cpu}
+use Rattle.{cpu.specs.Tower.Views.TowerName, cpu_workers.specs.{Laws.{ActionsLetOrderGoOn, FrontsKeepOrder}, Orders.effects_of}}
 
 -- entries of one CPU are none of another's
 not_of : (c d : CpuId) (es : List Entry) → same_cpu d c ≡ false → AllByRecursion (λ e. e.cpu ≡ d) es → of_cpu c es ≡ []

@@ -1,7 +1,6 @@
 -- A worker's plan is its CPU's, and its threads follow their programs.
 use Rattle.std.proofs.Common.{◌≡◌, ◌≢◌, ℕ, zero, suc, ◌+◌, Bool, true, false, not, ◌&&◌, ◌==◌, List, [], ◌∷◌, length, reverse, Option, Some, None, is_some}
-use Rattle.std.proofs.{Common.{option_map, slice_index_or, if◌then◌else◌, refl, ap, sym, ◌∙◌, subst, arith}, lemmas.List.reverse-reverse}
-use Rattle.std.specs.List.{list_all}
+use Rattle.std.{proofs.{Common.{option_map, slice_index_or, if◌then◌else◌, refl, ap, sym, ◌∙◌, subst, arith}, lemmas.List.reverse-reverse}, specs.List.list_all}
 use Rattle.event_log.specs.{declared.{entries.Entry.Entry, ids.{CpuId.CpuId, Tid.Tid}}, Actions.Action}
 use Rattle.guest.specs.{declared.instructions.Instruction.Instruction, Calls.{IsProgramsCalls, HasEnded}, State.{State, next_of}}
 use Rattle.layer_traits.specs.declared.{calls.{Call.Call, Effect.Effect}, steps.{Reason.TheVariants.{AllEnded, TraceFull, StepsUsed}, Step.Step}}

@@ -1,15 +1,11 @@
 -- What has returned is before what has not begun: the order at a prefix is a prefix of the whole
 -- order.
 use Rattle.std.proofs.Common.{◌≡◌, ℕ, zero, suc, ◌+◌, ◌-◌, ◌<◌, ◌≤◌, ◌==◌, Bool, true, false, List, [], ◌∷◌, ◌++◌, length, take, reverse, Option, Some, None}
-use Rattle.std.proofs.{Common.{if◌then◌else◌, refl, ap, sym, ◌∙◌, subst, arith}, lemmas.Bool.{cases_lt, eq-eqb}}
-use Rattle.std.proofs.Common.{inl, inr}
-use Rattle.std.specs.Prelude.{filter, slice_get}
-use Rattle.event_log.specs.{declared.{entries.Entry.Entry, ids.{CpuId.CpuId, Tid.Tid}}, Actions.Action}
-use Rattle.cpu.specs.{Cpus.{of_cpu, of_thread}, Table.Setups.{Call, Private, Setup, has_none, thread_at}, Tower.Views.TowerName}
-use Rattle.cpu.proofs.WholeSystems.OneOrder.{filter_reversed}
-use Rattle.cpu_workers.specs.{Fronts.{AreLinearizable, IsFront}, Orders.effects_of}
-use Rattle.cpu_workers.specs.RealTime.{ReturnedComeFirst, StandsAt, calls_begun, begun_with, thread_entries}
-use Rattle.cpu_workers.specs.RealTime.{calls_returned, returned_with}
+use Rattle.std.{proofs.{Common.{if◌then◌else◌, refl, ap, sym, ◌∙◌, subst, arith, inl, inr}, lemmas.Bool.{cases_lt, eq-eqb}}, specs.Prelude.{filter, slice_get}}
+use Rattle.{event_log.specs.{declared.{entries.Entry.Entry, ids.{CpuId.CpuId, Tid.Tid}}, Actions.Action}, cpu.specs.Cpus.{of_cpu, of_thread}}
+use Rattle.cpu.{specs.{Table.Setups.{Call, Private, Setup, has_none, thread_at}, Tower.Views.TowerName}, proofs.WholeSystems.OneOrder.filter_reversed}
+use Rattle.cpu_workers.specs.{Fronts.{AreLinearizable, IsFront}, Orders.effects_of, RealTime.{ReturnedComeFirst, StandsAt, calls_begun, begun_with}}
+use Rattle.cpu_workers.specs.RealTime.{thread_entries, calls_returned, returned_with}
 
 -- one entry more in front
 calls_first : (c : CpuId) (t : Tid) (e : Entry) (es : List Entry)

@@ -5,17 +5,16 @@ use Rattle.cpu_workers.proofs.{ClosedLog.{buffers_left, queues_left, buffer_open
 use Rattle.cpu_workers.{proofs.{OneOrder.trace_in, Fronts.{effects_so, is_front, proper_before}, TableTraces.total}, specs.declared.workers.gates.Go.Go}
 use Rattle.cpu_workers.specs.{declared.workers.{gates.Go.TheVariants.Limit, stops.Stop.Stop}, Lawful.{AreLeft, HasGone, IsLawfulReport, IsCpuReportOf}}
 use Rattle.cpu_workers.specs.{Lawful.{IsReport, CpuReport, ShownReport, ReportsTrue, left_in, held_at}, Logs.IsReportOfWords, Orders.FollowsProgram}
-use Rattle.cpu_workers.specs.{Orders.{effects_of, IsTraceOf}, Working.Charge, Closing.{HasSeen, IsReported, Key, LockBlock, ReportsAreLawful}}
-use Rattle.cpu_workers.specs.{Closing.{acts_in, seen_above}, Reports.{IsTrueStop, TookWithin, WentBy}, Seating.HasLeft}
-use Rattle.{cpu_workers.specs.Seating.IsApart, event_log.specs.declared.{entries.Entry.Entry, ids.{CpuId.CpuId, LockId.{LockId, TheVariants.Pending}}}}
-use Rattle.event_log.specs.{declared.ids.LockId.TheVariants.Buffer as AtBuffer, Actions.{Action, cpu_of_action, phase, renamed}, History.AreOthers}
-use Rattle.event_log.{specs.Sections.sections_in, proofs.{Foreign.{own_none, phase_others}, Streams.taken_put, Renaming.{legal_renamed, others_renamed}}}
-use Rattle.{event_log.proofs.Same.same_cpu_self, layer_traits.specs.{declared.queue_edits.QueueBlock.QueueBlock, Polling.Plans.is_in_section}}
-use Rattle.layer_traits.{specs.{Protocols.OneLock.opened, Blocks.QueueRules.AreProper}, proofs.PlanRenaming.map-append}
-use Rattle.{table_machine.specs.SeatViews.{TableView}, cpu.specs.{Claims.{buffer_at, listed}, Cpus.{of_cpu}, Table.Blocks.Name}}
-use Rattle.cpu.specs.{Table.{Setups.{Setup, boot_of}, Steps.{cpu_step, halted_at}}, Tower.{Composed.named, Views.{TowerName, name_of}}}
-use Rattle.cpu.{specs.{Tower.Views.TowerBlock, Wakeups.Lost.IsWorked, Sound.setup_for}, proofs.StepTable.TableQuiet.ended_at}
-use Rattle.{cpu.proofs.Wakeups.CpusByTable.cpus_lose_no_wake_up, boot.specs.Plan.BootPlan}
+use Rattle.cpu_workers.specs.{Orders.{effects_of, IsTraceOf}, Working.Charge, Closing.{HasSeen, IsReported, Key, LockBlock, ReportsAreLawful, acts_in}}
+use Rattle.cpu_workers.specs.{Closing.seen_above, Reports.{IsTrueStop, TookWithin, WentBy}, Seating.{HasLeft, IsApart}}
+use Rattle.event_log.specs.{declared.{entries.Entry.Entry, ids.{CpuId.CpuId, LockId.{LockId, TheVariants.{Pending, Buffer as AtBuffer}}}}, Actions.Action}
+use Rattle.event_log.{specs.{Actions.{cpu_of_action, phase, renamed}, History.AreOthers, Sections.sections_in}, proofs.Foreign.{own_none, phase_others}}
+use Rattle.event_log.proofs.{Streams.taken_put, Renaming.{legal_renamed, others_renamed}, Same.same_cpu_self}
+use Rattle.layer_traits.specs.{declared.queue_edits.QueueBlock.QueueBlock, Polling.Plans.is_in_section, Protocols.OneLock.opened, Blocks.QueueRules.AreProper}
+use Rattle.{layer_traits.proofs.PlanRenaming.map-append, table_machine.specs.SeatViews.TableView, cpu.specs.{Claims.{buffer_at, listed}, Cpus.of_cpu}}
+use Rattle.cpu.specs.{Table.{Blocks.Name, Setups.{Setup, boot_of}, Steps.{cpu_step, halted_at}}, Tower.{Composed.named, Views.{TowerName, name_of, TowerBlock}}}
+use Rattle.cpu.{specs.{Wakeups.Lost.IsWorked, Sound.setup_for}, proofs.{StepTable.TableQuiet.ended_at, Wakeups.CpusByTable.cpus_lose_no_wake_up}}
+use Rattle.boot.specs.Plan.{BootPlan}
 use Rattle.layer_traits.specs.declared.steps.Reason.TheVariants as reason
 
 -- What a worker of a plan left is what its CPU did along what it has seen.

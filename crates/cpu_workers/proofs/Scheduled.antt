@@ -1,12 +1,10 @@
 -- From a lawful report to a schedule under which the step table's system does the same.
-use Rattle.std.proofs.Common.{◌≡◌, ◌⊎◌, ℕ, ◌<◌, ◌≤◌, List, [], ◌∷◌, All, length, map, refl, ap, sym, ◌∙◌, arith}
-use Rattle.std.proofs.{Common.get_or, lemmas.{List.{length-map, same_lists}, Option.get_or_from_slice_get}}
-use Rattle.event_log.specs.declared.entries.Entry.{Entry}
-use Rattle.cpu.proofs.ListFacts.ListReads.{shows_at}
-use Rattle.event_log.specs.{declared.ids.{CpuId.CpuId, LockId.TheVariants.{Pending, Buffer as AtBuffer}}, Actions.{Action, phase}}
-use Rattle.{layer_traits.specs.{Threads.OnePlace.cpu_at, Polling.Plans.is_in_section}, cpu.specs.{Sound.after_steps, Wakeups.Lost.IsWorked}}
-use Rattle.cpu.specs.{Wakeups.Merged.IsRunOfTable, Table.{Blocks.Name, Setups.{Private, Setup}, Steps.{IsReached, Whole, block_at, boots, steps_once}}}
-use Rattle.{cpu.{specs.Table.Steps.{system_step, whole_at_boot}, proofs.Wakeups.Merging.work_is_a_run}, cpu_workers.proofs.Joining.{all_head, all_tail}}
+use Rattle.std.proofs.{Common.{◌≡◌, ◌⊎◌, ℕ, ◌<◌, ◌≤◌, List, [], ◌∷◌, All, length, map, refl, ap, sym, ◌∙◌, arith, get_or}, lemmas.List.{length-map, same_lists}}
+use Rattle.std.proofs.lemmas.Option.{get_or_from_slice_get}
+use Rattle.event_log.specs.{declared.{entries.Entry.Entry, ids.{CpuId.CpuId, LockId.TheVariants.{Pending, Buffer as AtBuffer}}}, Actions.{Action, phase}}
+use Rattle.cpu.{proofs.{ListFacts.ListReads.shows_at, Wakeups.Merging.work_is_a_run}, specs.{Sound.after_steps, Wakeups.{Lost.IsWorked, Merged.IsRunOfTable}}}
+use Rattle.cpu.specs.Table.{Blocks.Name, Setups.{Private, Setup}, Steps.{IsReached, Whole, block_at, boots, steps_once, system_step, whole_at_boot}}
+use Rattle.{layer_traits.specs.{Threads.OnePlace.cpu_at, Polling.Plans.is_in_section}, cpu_workers.proofs.Joining.{all_head, all_tail}}
 use Rattle.cpu_workers.specs.{declared.workers.gates.Go.Go, Lawful.{AreLeft, CpuReport, IsCpuReportOf, IsLawfulReport, ShownReport}, ReportRuns.IsReportOfRun}
 use Rattle.cpu_workers.specs.ReportRuns.{ReportsAreRuns, StandsAsTold, run_by}
 

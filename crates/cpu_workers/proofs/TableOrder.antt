@@ -1,17 +1,15 @@
 -- From the keys returned to a closed table to the one order of their CPUs' calls.
-use Rattle.std.proofs.Common.{◌≡◌, ℕ, ◌+◌, ◌*◌, ◌^◌, ◌<◌, ◌≤◌, List, [], length, Some, slice_get, slice_index_or, ap, sym, ◌∙◌, subst, arith, ◌∷◌}
-use Rattle.std.proofs.{Common.{◌++◌, map}, lemmas.{Option.get_or_from_slice_get, List.{append_cancel_right, length-map, length-set, same_lists}}}
-use Rattle.std.proofs.{Common.get_or, lemmas.Option.{slice_get-get_or}}
-use Rattle.cpu.proofs.ListFacts.ListReads.{listed_length, listed_there}
+use Rattle.std.proofs.Common.{◌≡◌, ℕ, ◌+◌, ◌*◌, ◌^◌, ◌<◌, ◌≤◌, List, [], length, Some, slice_get, slice_index_or, ap, sym, ◌∙◌, subst, arith, ◌∷◌, ◌++◌, map}
+use Rattle.std.proofs.{Common.get_or, lemmas.{Option.{get_or_from_slice_get, slice_get-get_or}, List.{append_cancel_right, length-map, length-set, same_lists}}}
+use Rattle.cpu.{proofs.ListFacts.ListReads.{listed_length, listed_there}, specs.{Claims.{buffer_at, listed}, Table.Setups.Setup, Tower.Views.TowerName}}
 use Rattle.event_log.specs.{declared.{entries.Entry.Entry, ids.{CpuId.CpuId, LockId.{LockId, TheVariants.Buffer as AtBuffer}}}, Actions.{Action, cpu_of_action}}
 use Rattle.event_log.{specs.{Actions.{acts_of, renamed}, History.{AreOthers, own_events}, Messages.Message, WordsLog.cpu_of_event}, proofs.Foreign.own_none}
 use Rattle.event_log.proofs.{Foreign.{acts_of-append, others_acts, own_append}, Renaming.others_renamed}
 use Rattle.layer_traits.specs.{declared.queue_edits.QueueBlock.QueueBlock, Blocks.BufferEffects.contents_of, Threads.OnePlace.cpu_at}
 use Rattle.layer_traits.{specs.{Views.Renaming.renamed_edit, Protocols.WordsProtocol.edit_of}, proofs.PlanRenaming.map-append}
-use Rattle.{table_machine.specs.SeatViews.{TableView, ClosesTable}, cpu.specs.{Claims.{buffer_at, listed}, Table.Setups.Setup, Tower.Views.TowerName}}
-use Rattle.cpu_workers.specs.{Closing.{Key, LockBlock, StartsSo, acts_in, blocks_read, tower_rules, WordsOfTower}, Lawful.messages_in, Natives.left_among}
-use Rattle.cpu_workers.{specs.Orders.{IsTraceOf, effects_of}, proofs.{ClosedLog.{effects_may, messages_left}, OneOrder.{HasOrder, none_own, one_order}}}
-use Rattle.cpu_workers.proofs.OneOrder.{trace_in}
+use Rattle.{table_machine.specs.SeatViews.{TableView, ClosesTable}, cpu_workers.specs.Closing.{Key, LockBlock, StartsSo, acts_in, blocks_read, tower_rules}}
+use Rattle.cpu_workers.{specs.{Closing.WordsOfTower, Lawful.messages_in, Natives.left_among, Orders.{IsTraceOf, effects_of}}, proofs.ClosedLog.effects_may}
+use Rattle.cpu_workers.proofs.{ClosedLog.messages_left, OneOrder.{HasOrder, none_own, one_order, trace_in}}
 use Rattle.sleep_wakeup.specs.Nested as sleep
 use Rattle.queuing_lock.specs.Nested as lock
 

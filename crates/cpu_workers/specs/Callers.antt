@@ -1,9 +1,13 @@
 -- Callers: native threads that send to buffers and receive from them, each on its own CPU.
 use Rattle.std.specs.Prelude.{◌≡◌, ℕ, ◌≤◌, List, ◌++◌, [], ◌∷◌, length}
-use Rattle.event_log.specs.declared.{entries.{Entry.Entry, Kind.{Kind, TheVariants.{Send, Recv, Close, SendClosed, RecvClosed}}}, ids.BufId.BufId}
-use Rattle.{event_log.specs.{declared.ids.{CpuId.CpuId, Tid.Tid}, Messages.{Message, no_message}}, layer_traits.specs.declared.calls.{Call.Call, Effect.Effect}}
-use Rattle.layer_traits.specs.{declared.calls.Reply.Reply, Blocks.BufferEffects.entry, Layers.BufferLaw.{IsEffectOf, buffer_of, entry_of, reply_of}}
-use Rattle.{cpu.specs.Cpus.of_cpu, cpu_workers.specs.declared.workers.callers.TheConstants.MOST_CALLS}
+use Rattle.event_log.specs.declared.entries.{Entry.Entry, Kind.{Kind, TheVariants.{Send, Recv}}}
+use Rattle.event_log.specs.declared.entries.Kind.TheVariants.{Close, SendClosed, RecvClosed}
+use Rattle.event_log.specs.{declared.ids.{BufId.BufId, CpuId.CpuId, Tid.Tid}, Messages.Message}
+use Rattle.{event_log.specs.Messages.no_message, layer_traits.specs.declared.calls.Call.Call}
+use Rattle.layer_traits.specs.declared.calls.{Effect.Effect, Reply.Reply}
+use Rattle.layer_traits.specs.{Blocks.BufferEffects.entry, Layers.BufferLaw.{IsEffectOf, buffer_of}}
+use Rattle.{layer_traits.specs.Layers.BufferLaw.{entry_of, reply_of}, cpu.specs.Cpus.of_cpu}
+use Rattle.cpu_workers.specs.declared.workers.callers.TheConstants.{MOST_CALLS}
 
 -- a caller as its users see it: its CPU and thread, the buffers' capacities, which machine it is,
 -- and its calls' entries, oldest first
@@ -17,7 +21,8 @@ pub record CallerView : Type 0 where
 -- The invariant of a caller. Its part agrees with its machine, which has room at any time. Nothing
 -- is under way, and its thread is in no call. Each buffer opened empty. It counts its calls, which
 -- are at most `MOST_CALLS`.
-pub record IsCaller (PartFits Roomy Nothing Rests Opens : Type 0) (cpu : CpuId) (seen : List Entry) (made : ℕ) : Type 0 where
+pub record IsCaller (PartFits Roomy Nothing Rests Opens : Type 0) (cpu : CpuId) (seen : List Entry)
+    (made : ℕ) : Type 0 where
   pub fits : PartFits
   pub room : Roomy
   pub nothing : Nothing
@@ -29,7 +34,13 @@ pub record IsCaller (PartFits Roomy Nothing Rests Opens : Type 0) (cpu : CpuId) 
 -- a caller after one more entry
 abbrev pub with_entry : CallerView → Entry → CallerView
 with_entry caller e =
-    record { cpu = caller.cpu; thread = caller.thread; caps = caller.caps; site = caller.site; calls = caller.calls ++ e ∷ [] }
+    record {
+      cpu = caller.cpu;
+      thread = caller.thread;
+      caps = caller.caps;
+      site = caller.site;
+      calls = caller.calls ++ e ∷ [];
+    }
 
 -- an effect without a message carries none
 abbrev pub CarriesNone : Kind → Message → Type 0
@@ -48,7 +59,8 @@ pub record HasCalled (old new : CallerView) (call : Call) (reply : Reply) : Type
   pub grows : new ≡ with_entry old (entry_of old.cpu old.thread (buffer_of call) effect)
 
 -- the caller has one entry more, of this kind on this buffer with this message
-pub record HasMadeCall (old new : CallerView) (kind : Kind) (b : BufId) (value : Message) : Type 0 where
+pub record HasMadeCall (old new : CallerView) (kind : Kind) (b : BufId) (value : Message) : Type
+    0 where
   pub op : ℕ
   pub pos : ℕ
   pub grows : new ≡ with_entry old (entry old.cpu old.thread kind b value op pos)

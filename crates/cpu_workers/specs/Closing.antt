@@ -1,21 +1,36 @@
 -- The workers of one table of the tower's locks, once their threads are joined and the table is
 -- closed.
-use Rattle.std.specs.{Prelude.{◌≡◌, ℕ, ◌*◌, ◌^◌, ◌<◌, ◌≤◌, false, List, length, map, Option, Some, IsSome, option_map, slice_get}, List.AllByRecursion}
-use Rattle.event_log.specs.declared.{entries.Entry.Entry, events.Event.Event, ids.{CpuId.CpuId, LockId.{LockId, TheVariants.Pending}, TheConstants.BUFFERS}}
-use Rattle.event_log.specs.{declared.ids.Tid.Tid, Actions.{Action, AreLegal, acts_of, phase, renamed}}
-use Rattle.layer_traits.specs.declared.{buffer_edits.{BufferEdit.BufferEdit, BufferOut.BufferOut}, conditions.{CvEdit.CvEdit, CvLeave.CvLeave, CvOut.CvOut}}
-use Rattle.layer_traits.specs.declared.{edits.Mark.Mark, locked.QOut.QOut, queue_edits.{QueueBlock.QueueBlock, QueueEdit.QueueEdit, QueueAnswer.QueueAnswer}}
-use Rattle.layer_traits.specs.{declared.sleeps.Outcome.Outcome, Blocks.{BufferBlocks.BufferState, BufferEffects.opening_locks}}
-use Rattle.layer_traits.specs.Blocks.{BufferProtocol.buffer_monitor_rules, QueueBlocks.{StartsWell, homes_in, inner}, QueueRules.queue_rules}
-use Rattle.layer_traits.specs.{Layers.Conditions.cv_rules, Protocols.{OneLock.opened, Protocol.Rules, WordsProtocol.edit_of}, Threads.Places.home_of}
-use Rattle.layer_traits.specs.{Polling.Plans.is_in_section, Views.Renaming.{renamed_edit, viewed, viewed_block}}
-use Rattle.sleep_wakeup.specs.{declared.edits.{SleepBlock.SleepBlock, SleepEdit.SleepEdit}, Nested.{nested_moves, nested_rules, state_of}}
-use Rattle.queuing_lock.specs.{declared.edits.{QBlock.QBlock, QLockEdit.QLockEdit}, Nested.{busy_rules, nested_lock_of}}
-use Rattle.{table_machine.specs.SeatViews.{TableView, ClosesTable, SeatView}, cpu.specs.Table.{Blocks.Block, Setups.{Setup, Private, boot_of, program_of}}}
-use Rattle.cpu.specs.{Table.{Setups.thread_at, Steps.{cpu_step, halted_at}}, Cpus.{IsOfHome, of_thread}, Tower.{Composed.named, Views.{TowerBlock, TowerName}}}
-use Rattle.{cpu.specs.Tower.Views.view, cpu_workers.specs.declared.workers.{gates.Go.{Go, TheVariants.{Limit, Pass}}, stops.Stop.{Stop, TheVariants.Held}}}
-use Rattle.cpu_workers.specs.{declared.workers.stops.Stop.TheVariants.TurnsUsed, Lawful.{IsLawfulReport, IsCpuReportOf, CpuReport, ShownReport}}
-use Rattle.cpu_workers.specs.{Orders.{FollowsProgram, IsTraceOf}, Reports.{IsTrueStop, MayTakeTurn, Walked, TookWithin, WasHeld, PassedAtEach, AskedAtEach}}
+use Rattle.std.specs.Prelude.{◌≡◌, ℕ, ◌*◌, ◌^◌, ◌<◌, ◌≤◌, false, List, length, map, Option, Some}
+use Rattle.std.specs.{Prelude.{IsSome, option_map, slice_get}, List.AllByRecursion}
+use Rattle.event_log.specs.declared.{entries.Entry.Entry, events.Event.Event, ids.CpuId.CpuId}
+use Rattle.event_log.specs.declared.ids.{LockId.{LockId, TheVariants.Pending}, TheConstants.BUFFERS}
+use Rattle.event_log.specs.{declared.ids.Tid.Tid, Actions.{Action, AreLegal, acts_of, phase}}
+use Rattle.event_log.specs.Actions.{renamed}
+use Rattle.layer_traits.specs.declared.buffer_edits.{BufferEdit.BufferEdit, BufferOut.BufferOut}
+use Rattle.layer_traits.specs.declared.conditions.{CvEdit.CvEdit, CvLeave.CvLeave, CvOut.CvOut}
+use Rattle.layer_traits.specs.declared.{edits.Mark.Mark, locked.QOut.QOut}
+use Rattle.layer_traits.specs.declared.queue_edits.{QueueBlock.QueueBlock, QueueEdit.QueueEdit}
+use Rattle.layer_traits.specs.declared.{queue_edits.QueueAnswer.QueueAnswer, sleeps.Outcome.Outcome}
+use Rattle.layer_traits.specs.Blocks.{BufferBlocks.BufferState, BufferEffects.opening_locks}
+use Rattle.layer_traits.specs.Blocks.{BufferProtocol.buffer_monitor_rules, QueueBlocks.StartsWell}
+use Rattle.layer_traits.specs.Blocks.{QueueBlocks.{homes_in, inner}, QueueRules.queue_rules}
+use Rattle.layer_traits.specs.{Layers.Conditions.cv_rules, Protocols.OneLock.opened}
+use Rattle.layer_traits.specs.Protocols.{Protocol.Rules, WordsProtocol.edit_of}
+use Rattle.layer_traits.specs.{Threads.Places.home_of, Polling.Plans.is_in_section}
+use Rattle.layer_traits.specs.Views.Renaming.{renamed_edit, viewed, viewed_block}
+use Rattle.sleep_wakeup.specs.declared.edits.{SleepBlock.SleepBlock, SleepEdit.SleepEdit}
+use Rattle.sleep_wakeup.specs.Nested.{nested_moves, nested_rules, state_of}
+use Rattle.queuing_lock.specs.declared.edits.{QBlock.QBlock, QLockEdit.QLockEdit}
+use Rattle.queuing_lock.specs.Nested.{busy_rules, nested_lock_of}
+use Rattle.table_machine.specs.SeatViews.{TableView, ClosesTable, SeatView}
+use Rattle.cpu.specs.Table.{Blocks.Block, Setups.{Setup, Private, boot_of, program_of, thread_at}}
+use Rattle.cpu.specs.{Table.Steps.{cpu_step, halted_at}, Cpus.{IsOfHome, of_thread}}
+use Rattle.cpu.specs.Tower.{Composed.named, Views.{TowerBlock, TowerName, view}}
+use Rattle.cpu_workers.specs.declared.workers.gates.Go.{Go, TheVariants.{Limit, Pass}}
+use Rattle.cpu_workers.specs.declared.workers.stops.Stop.{Stop, TheVariants.{Held, TurnsUsed}}
+use Rattle.cpu_workers.specs.Lawful.{IsLawfulReport, IsCpuReportOf, CpuReport, ShownReport}
+use Rattle.cpu_workers.specs.{Orders.{FollowsProgram, IsTraceOf}, Reports.{IsTrueStop, MayTakeTurn}}
+use Rattle.cpu_workers.specs.Reports.{Walked, TookWithin, WasHeld, PassedAtEach, AskedAtEach}
 use Rattle.sleep_wakeup.specs.Nested as sleep
 use Rattle.queuing_lock.specs.Nested as lock
 
@@ -39,11 +54,15 @@ Key = SeatView (QueueEdit LockEdit) (QueueBlock LockBlock)
 
 -- what the tower's edits mean
 abbrev pub tower_rules : Rules (QueueEdit LockEdit) (QueueBlock LockBlock) (QueueAnswer LockOut)
-tower_rules = queue_rules (nested_rules (busy_rules (cv_rules buffer_monitor_rules))) (nested_moves (busy_rules (cv_rules buffer_monitor_rules)))
+tower_rules =
+    queue_rules (nested_rules (busy_rules (cv_rules buffer_monitor_rules)))
+    (nested_moves (busy_rules (cv_rules buffer_monitor_rules)))
 
 -- the actions of a words log, under the names of the layers over it
 abbrev pub acts_in : WordsOfTower → List (Action TowerName)
-acts_in log = map (renamed (renamed_edit lock.lock_call)) (map (renamed (renamed_edit sleep.slept_edit)) (acts_of edit_of log))
+acts_in log =
+    map (renamed (renamed_edit lock.lock_call))
+    (map (renamed (renamed_edit sleep.slept_edit)) (acts_of edit_of log))
 
 -- opening blocks, as the layers above see them
 abbrev pub seen_above : (LockId → Option (QueueBlock LockBlock)) → LockId → Option TowerBlock
@@ -51,7 +70,9 @@ seen_above opening = viewed nested_lock_of (viewed state_of opening)
 
 -- a block of the tower's locks, as the step table has blocks
 abbrev pub block_shown : Option (QueueBlock LockBlock) → Option Block
-block_shown o = option_map view (option_map (viewed_block nested_lock_of) (option_map (viewed_block state_of) o))
+block_shown o =
+    option_map view (option_map (viewed_block nested_lock_of)
+    (option_map (viewed_block state_of) o))
 
 -- the block of each lock in a list of locks with their blocks, as the step table has blocks
 abbrev pub blocks_read : List (LockId × QueueBlock LockBlock) → LockId → Option Block
@@ -82,11 +103,14 @@ pub record StartsSo (setup : Setup) (table_view : TableView (QueueBlock LockBloc
 -- The CPU's stop is true of its last state, and its trace is its effects in what it has seen. The
 -- trace is within its room, each entry is of a home thread, and each home thread followed its
 -- program.
-pub record HasSeen (setup : Setup) (May : Go → ℕ → Type 0) (turns : ℕ) (c : CpuId) (acts : List (Action TowerName)) (line : CpuReport) : Type 0 where
+pub record HasSeen (setup : Setup) (May : Go → ℕ → Type 0) (turns : ℕ) (c : CpuId)
+    (acts : List (Action TowerName)) (line : CpuReport) : Type 0 where
   pub last : Private
   pub took : Walked (cpu_step setup c) c (boot_of setup c) last (named acts) line.taken
-  pub within : TookWithin (cpu_step setup c) c (MayTakeTurn turns (May Pass)) (boot_of setup c) last (named acts) line.taken
-  pub held : line.stop ≡ Held → WasHeld (cpu_step setup c) c (May Limit) (boot_of setup c) last (named acts) line.taken
+  pub within : TookWithin (cpu_step setup c) c (MayTakeTurn turns (May Pass)) (boot_of setup c) last
+      (named acts) line.taken
+  pub held : line.stop ≡ Held
+      → WasHeld (cpu_step setup c) c (May Limit) (boot_of setup c) last (named acts) line.taken
   pub asked : AskedAtEach May line.taken
   pub used : line.stop ≡ TurnsUsed → PassedAtEach (May Pass) line.taken
   pub rests : is_in_section (phase c (named acts)) ≡ false
@@ -100,20 +124,26 @@ pub record HasSeen (setup : Setup) (May : Go → ℕ → Type 0) (turns : ℕ) (
       → FollowsProgram (program_of setup t) (of_thread t.0 line.trace) (thread_at last t).ended
 
 -- the report has a row for each worker that returned the key of its CPU, and no more rows
-pub record HaveCome (setup : Setup) (May : CpuId → Go → ℕ → Type 0) (turns : ℕ) (keys : List Key) (r : ShownReport) : Type 0 where
+pub record HaveCome (setup : Setup) (May : CpuId → Go → ℕ → Type 0) (turns : ℕ) (keys : List Key)
+    (r : ShownReport) : Type 0 where
   pub traces : length r.traces ≡ setup.cpus
   pub taken : length r.taken ≡ setup.cpus
   pub stops : length r.stops ≡ setup.cpus
-  pub each : (c : CpuId) → c.0 < setup.cpus → (key : Key) × (line : CpuReport) × (slice_get keys c.0 ≡ Some key) × (key.cpu ≡ c) × IsCpuReportOf r c line
+  pub each : (c : CpuId) → c.0 < setup.cpus
+      → (key : Key) × (line : CpuReport) × (slice_get keys c.0 ≡ Some key) × (key.cpu ≡ c)
+      × IsCpuReportOf r c line
       × HasSeen setup (May c) turns c (acts_in key.seen) line
 
 -- a report of the closed table, whose blocks are those that `close` returned
-abbrev pub shown : List (List Entry) → List ℕ → List Stop → List (LockId × QueueBlock LockBlock) → ShownReport
-shown traces taken stops blocks = record { traces = traces; taken = taken; stops = stops; blocks = blocks_read blocks }
+abbrev pub shown : List (List Entry) → List ℕ → List Stop → List (LockId × QueueBlock LockBlock)
+    → ShownReport
+shown traces taken stops blocks =
+    record { traces = traces; taken = taken; stops = stops; blocks = blocks_read blocks }
 
 -- the threads of a table's workers were joined, the table was closed with their keys and returned
 -- these blocks, and this is the report
-pub record IsReported (setup : Setup) (May : CpuId → Go → ℕ → Type 0) (turns : ℕ) (table_view : TableView (QueueBlock LockBlock)) (keys : List Key)
+pub record IsReported (setup : Setup) (May : CpuId → Go → ℕ → Type 0) (turns : ℕ)
+    (table_view : TableView (QueueBlock LockBlock)) (keys : List Key)
     (blocks : List (LockId × QueueBlock LockBlock)) (r : ShownReport) : Type 0 where
   pub starts : StartsSo setup table_view
   pub come : HaveCome setup May turns keys r
@@ -122,5 +152,7 @@ pub record IsReported (setup : Setup) (May : CpuId → Go → ℕ → Type 0) (t
 
 -- such a report is lawful, whatever this gate may return
 abbrev pub ReportsAreLawful : (CpuId → Go → ℕ → Type 0) → Type 0
-ReportsAreLawful May = (setup : Setup) (turns : ℕ) (table_view : TableView (QueueBlock LockBlock)) (keys : List Key)
-    (blocks : List (LockId × QueueBlock LockBlock)) (r : ShownReport) → IsReported setup May turns table_view keys blocks r → IsLawfulReport setup May turns r
+ReportsAreLawful May =
+    (setup : Setup) (turns : ℕ) (table_view : TableView (QueueBlock LockBlock)) (keys : List Key)
+    (blocks : List (LockId × QueueBlock LockBlock)) (r : ShownReport)
+    → IsReported setup May turns table_view keys blocks r → IsLawfulReport setup May turns r

@@ -1,6 +1,8 @@
 -- When a worker yields its processor: how many polls are left to it, and whether its CPU is idle.
-use Rattle.std.specs.Prelude.{ℕ, ◌==◌, ◌-◌, Bool, true, false, List, [], Option, None, if◌then◌else◌}
-use Rattle.{event_log.specs.declared.ids.Tid.Tid, cpu_workers.specs.declared.pauses.TheConstants.SPINS}
+use Rattle.std.specs.Prelude.{ℕ, ◌==◌, ◌-◌, Bool, true, false, List, [], Option, None}
+use Rattle.std.specs.Prelude.{if◌then◌else◌}
+use Rattle.event_log.specs.declared.ids.Tid.{Tid}
+use Rattle.cpu_workers.specs.declared.pauses.TheConstants.{SPINS}
 
 -- How many polls are left after a turn. In a section it is one less, or one if none was left.
 -- Outside of sections it is all of them.

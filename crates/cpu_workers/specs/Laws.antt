@@ -1,9 +1,13 @@
 -- The theorems on workers that run at one table.
 use Rattle.std.specs.Prelude.{◌≡◌, ℕ, ◌≤◌, ◌<◌, Bool, true, List, [], ◌∷◌, ◌++◌, reverse, None}
-use Rattle.event_log.specs.{declared.{entries.Entry.Entry, ids.CpuId.CpuId}, History.{AreOthers, own_events}, Actions.{Action, cpu_of_action}}
-use Rattle.cpu.specs.{Table.{Blocks.Name, Setups.{Setup, Private, boot_of, have_ended, home_threads}, Steps.{cpu_step, halted_at}}, Wakeups.Lost.LosesNoWakeUp}
-use Rattle.{cpu.specs.{Cpus.of_cpu, Linear.OrderGrows, Tower.Views.TowerName}, cpu_workers.specs.declared.workers.stops.Stop.{Stop, TheVariants.AllEnded}}
-use Rattle.cpu_workers.specs.{declared.workers.stops.Stop.TheVariants.{TurnsUsed, Held}, Orders.effects_of, Reports.{IsTrueStop, Walked}}
+use Rattle.event_log.specs.{declared.{entries.Entry.Entry, ids.CpuId.CpuId}, History.AreOthers}
+use Rattle.event_log.specs.{History.own_events, Actions.{Action, cpu_of_action}}
+use Rattle.cpu.specs.Table.{Blocks.Name, Setups.{Setup, Private, boot_of, have_ended, home_threads}}
+use Rattle.cpu.specs.{Table.Steps.{cpu_step, halted_at}, Wakeups.Lost.LosesNoWakeUp, Cpus.of_cpu}
+use Rattle.cpu.specs.{Linear.OrderGrows, Tower.Views.TowerName}
+use Rattle.cpu_workers.specs.declared.workers.stops.Stop.{Stop, TheVariants.{AllEnded, TurnsUsed}}
+use Rattle.cpu_workers.specs.{declared.workers.stops.Stop.TheVariants.Held, Orders.effects_of}
+use Rattle.cpu_workers.specs.Reports.{IsTrueStop, Walked}
 
 -- a worker's CPU has run from boot by the step table along what it has seen, and the list continues
 -- with other CPUs' actions
@@ -23,12 +27,14 @@ pub record HaveWorked (setup : Setup) (log : List (Action Name)) : Type 0 where
 
 -- such workers lose no wake-up
 abbrev pub WorkersLoseNoWakeUp : Type 0
-WorkersLoseNoWakeUp = (setup : Setup) (log : List (Action Name)) → HaveWorked setup log → LosesNoWakeUp setup log
+WorkersLoseNoWakeUp =
+    (setup : Setup) (log : List (Action Name)) → HaveWorked setup log → LosesNoWakeUp setup log
 
 -- each action appends at most one call to the order of the calls, which is of the action's CPU
 abbrev pub ActionsLetOrderGoOn : Type 0
 ActionsLetOrderGoOn = (caps : List ℕ) (a : Action TowerName) (past : List (Action TowerName))
-    → OrderGrows (cpu_of_action a) (reverse (effects_of caps past)) (reverse (effects_of caps (a ∷ past)))
+    → OrderGrows (cpu_of_action a) (reverse (effects_of caps past))
+    (reverse (effects_of caps (a ∷ past)))
 
 -- the order of the calls at a longer prefix of a list of actions is the order at the shorter one,
 -- followed by further calls. None of these is of a CPU that did not act in between. A call that
@@ -40,15 +46,19 @@ pub record OrderGoesOn (caps : List ℕ) (later earlier : List (Action TowerName
 
 -- this holds of any two prefixes, one of which extends the other
 abbrev pub FrontsKeepOrder : Type 0
-FrontsKeepOrder = (caps : List ℕ) (later earlier : List (Action TowerName)) → OrderGoesOn caps later earlier
+FrontsKeepOrder =
+    (caps : List ℕ) (later earlier : List (Action TowerName)) → OrderGoesOn caps later earlier
 
 -- what a true stop states of the CPU: all its threads have ended, or it is not halted
-pub record SaysTrue (setup : Setup) (c : CpuId) (last : Private) (turns taken : ℕ) (stop : Stop) : Type 0 where
+pub record SaysTrue (setup : Setup) (c : CpuId) (last : Private) (turns taken : ℕ)
+    (stop : Stop) : Type 0 where
   pub ended : stop ≡ AllEnded → have_ended last (home_threads setup c) ≡ true
   pub used : stop ≡ TurnsUsed → (halted_at setup c last ≡ None) × (turns ≤ taken)
   pub held : stop ≡ Held → halted_at setup c last ≡ None
 
 -- whether or not the gate returned `Limit`
 abbrev pub StopsAreTrue : Type 0
-StopsAreTrue = (setup : Setup) (c : CpuId) (last : Private) (held : Bool) (turns taken : ℕ) (stop : Stop)
-    → IsTrueStop (halted_at setup c last) (λ turn. held ≡ true) turns taken stop → SaysTrue setup c last turns taken stop
+StopsAreTrue =
+    (setup : Setup) (c : CpuId) (last : Private) (held : Bool) (turns taken : ℕ) (stop : Stop)
+    → IsTrueStop (halted_at setup c last) (λ turn. held ≡ true) turns taken stop
+    → SaysTrue setup c last turns taken stop

@@ -1,8 +1,10 @@
 -- Real time, as Herlihy and Wing define it. At each moment, a call that has returned is in the
 -- order before each call that has not begun.
-use Rattle.std.specs.Prelude.{◌≡◌, ℕ, ◌+◌, ◌-◌, ◌<◌, ◌≤◌, List, ◌++◌, length, reverse, take, Option, Some, None, slice_get, if◌then◌else◌}
-use Rattle.event_log.specs.{declared.{entries.Entry.Entry, ids.{CpuId.CpuId, Tid.Tid}}, Actions.Action}
-use Rattle.{cpu.specs.{Cpus.{of_cpu, of_thread}, Table.Setups.{Call, Private, Setup, has_none, thread_at}, Tower.Views.TowerName}}
+use Rattle.std.specs.Prelude.{◌≡◌, ℕ, ◌+◌, ◌-◌, ◌<◌, ◌≤◌, List, ◌++◌, length, reverse, take, Option}
+use Rattle.std.specs.Prelude.{Some, None, slice_get, if◌then◌else◌}
+use Rattle.event_log.specs.declared.{entries.Entry.Entry, ids.{CpuId.CpuId, Tid.Tid}}
+use Rattle.{event_log.specs.Actions.Action, cpu.specs.{Cpus.{of_cpu, of_thread}, Table.Setups.Call}}
+use Rattle.cpu.specs.{Table.Setups.{Private, Setup, has_none, thread_at}, Tower.Views.TowerName}
 use Rattle.cpu_workers.specs.{Fronts.AreLinearizable, Orders.effects_of}
 
 -- how many calls of a thread have returned, and how many have begun, if so many took effect and
@@ -38,8 +40,11 @@ pub record StandsAt (c : CpuId) (t : Tid) (i : ℕ) (order : List Entry) (place 
 -- The theorem, at each prefix of linearizable actions. If call i of one thread has returned and
 -- call j of another has not begun, then i is before j in the order of all calls.
 abbrev pub ReturnedComeFirst : Type 0
-ReturnedComeFirst = (setup : Setup) (acts later earlier : List (Action TowerName)) → (linear : AreLinearizable setup acts) → (is : acts ≡ later ++ earlier)
+ReturnedComeFirst =
+    (setup : Setup) (acts later earlier : List (Action TowerName))
+    → (linear : AreLinearizable setup acts) → (is : acts ≡ later ++ earlier)
     → (c d : CpuId) (here : c.0 < setup.cpus) (there : d.0 < setup.cpus) (t u : Tid) (i j p q : ℕ)
     → i < calls_returned ((linear later earlier is).worked.ran c here).last t
     → calls_begun ((linear later earlier is).worked.ran d there).last u ≤ j
-    → StandsAt c t i (reverse (effects_of setup.caps acts)) p → StandsAt d u j (reverse (effects_of setup.caps acts)) q → p < q
+    → StandsAt c t i (reverse (effects_of setup.caps acts)) p
+    → StandsAt d u j (reverse (effects_of setup.caps acts)) q → p < q

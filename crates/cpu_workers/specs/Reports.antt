@@ -1,10 +1,15 @@
 -- What a worker did: so many turns, and why it stopped.
-use Rattle.std.specs.Prelude.{◌≡◌, ◌⊎◌, ℕ, ◌+◌, ◌-◌, ◌^◌, ◌<◌, ◌≤◌, ◌==◌, List, [], ◌∷◌, ◌++◌, Option, Some, None, false, true, if◌then◌else◌}
-use Rattle.event_log.specs.{declared.ids.CpuId.CpuId, Actions.{Action, cpu_of_action, phase}, History.same_cpu}
-use Rattle.layer_traits.specs.{declared.steps.{Reason.Reason, Step.TheVariants.Stepped}, Polling.{Along.{Outcome, Along}, Plans.is_in_section}}
-use Rattle.{cpu.specs.Table.{Setups.Setup, Steps.{cpu_step, halted_at}}, cpu_workers.specs.declared.workers.gates.Go.{Go, TheVariants.{Limit, Pass}}}
-use Rattle.cpu_workers.specs.{declared.workers.stops.Stop.{Stop, TheVariants.{AllEnded, TurnsUsed, TraceFull, Held}}, Working.{IsPlanned, IsSame, Working}}
-use Rattle.cpu_workers.specs.Working.{is_inside, log}
+use Rattle.std.specs.Prelude.{◌≡◌, ◌⊎◌, ℕ, ◌+◌, ◌-◌, ◌^◌, ◌<◌, ◌≤◌, ◌==◌, List, [], ◌∷◌, ◌++◌}
+use Rattle.std.specs.Prelude.{Option, Some, None, false, true, if◌then◌else◌}
+use Rattle.event_log.specs.{declared.ids.CpuId.CpuId, Actions.{Action, cpu_of_action, phase}}
+use Rattle.{event_log.specs.History.same_cpu, layer_traits.specs.declared.steps.Reason.Reason}
+use Rattle.layer_traits.specs.{declared.steps.Step.TheVariants.Stepped, Polling.Along.Outcome}
+use Rattle.layer_traits.specs.Polling.{Along.Along, Plans.is_in_section}
+use Rattle.cpu.specs.Table.{Setups.Setup, Steps.{cpu_step, halted_at}}
+use Rattle.cpu_workers.specs.declared.workers.gates.Go.{Go, TheVariants.{Limit, Pass}}
+use Rattle.cpu_workers.specs.declared.workers.stops.Stop.{Stop, TheVariants.{AllEnded, TurnsUsed}}
+use Rattle.cpu_workers.specs.declared.workers.stops.Stop.TheVariants.{TraceFull, Held}
+use Rattle.cpu_workers.specs.Working.{IsPlanned, IsSame, Working, is_inside, log}
 use Rattle.layer_traits.specs.declared.steps.Reason.TheVariants as reason
 
 -- the most that a number of turns shows
@@ -22,23 +27,29 @@ pub record CountsTurns (shown count : ℕ) : Type 0 where
 
 -- a CPU went along a list of actions under a table of steps, from its first state to its last, in
 -- so many steps
-pub record Walked {P N : Type 0} (table : P → List (Action N) → Outcome P N) (cpu : CpuId) (first last : P) (log : List (Action N)) (shown : ℕ) : Type 0 where
+pub record Walked {P N : Type 0} (table : P → List (Action N) → Outcome P N) (cpu : CpuId)
+    (first last : P) (log : List (Action N)) (shown : ℕ) : Type 0 where
   pub count : ℕ
   pub steps : Along table cpu first count last log
   pub counted : CountsTurns shown count
 
 -- how a CPU went along a list of actions, as `Along`; each step between two of its sections is
 -- taken only if so many steps allow one more
-pub data Within {P N : Type 0} (table : P → List (Action N) → Outcome P N) (cpu : CpuId) (May : ℕ → Type 0) (start : P) :
+pub data Within {P N : Type 0} (table : P → List (Action N) → Outcome P N) (cpu : CpuId)
+    (May : ℕ → Type 0) (start : P) :
     ℕ → P → List (Action N) → Type 0 where
   none_taken : Within table cpu May start 0 start []
-  another : {n : ℕ} {p : P} {log : List (Action N)} (a : Action N) → Within table cpu May start n p log → same_cpu (cpu_of_action a) cpu ≡ false
+  another : {n : ℕ} {p : P} {log : List (Action N)} (a : Action N)
+      → Within table cpu May start n p log → same_cpu (cpu_of_action a) cpu ≡ false
       → Within table cpu May start n p (a ∷ log)
-  one_taken : {n : ℕ} {p : P} {log : List (Action N)} → Within table cpu May start n p log → (is_in_section (phase cpu log) ≡ true) ⊎ May n
-      → (table p log).answer ≡ Stepped → Within table cpu May start (n + 1) (table p log).next ((table p log).acts ++ log)
+  one_taken : {n : ℕ} {p : P} {log : List (Action N)} → Within table cpu May start n p log
+      → (is_in_section (phase cpu log) ≡ true) ⊎ May n
+      → (table p log).answer ≡ Stepped
+      → Within table cpu May start (n + 1) (table p log).next ((table p log).acts ++ log)
 
 -- and in as many steps as are shown
-pub record TookWithin {P N : Type 0} (table : P → List (Action N) → Outcome P N) (cpu : CpuId) (May : ℕ → Type 0) (first last : P)
+pub record TookWithin {P N : Type 0} (table : P → List (Action N) → Outcome P N) (cpu : CpuId)
+    (May : ℕ → Type 0) (first last : P)
     (log : List (Action N)) (shown : ℕ) : Type 0 where
   pub count : ℕ
   pub steps : Within table cpu May first count last log
@@ -55,7 +66,8 @@ WasAsked MayPass count = (shown : ℕ) × CountsTurns shown count × ((k : ℕ) 
 
 -- A CPU was held. After so many turns the gate may have returned `Limit`, and after that the CPU
 -- took no turn except to end its section.
-pub record WasHeld {P N : Type 0} (table : P → List (Action N) → Outcome P N) (cpu : CpuId) (May : ℕ → Type 0) (first last : P)
+pub record WasHeld {P N : Type 0} (table : P → List (Action N) → Outcome P N) (cpu : CpuId)
+    (May : ℕ → Type 0) (first last : P)
     (log : List (Action N)) (taken : ℕ) : Type 0 where
   pub turn : ℕ
   pub before : turn ≤ taken
@@ -95,20 +107,25 @@ MayTakeTurn turns MayPass count = below turns count × WasAsked MayPass count
 -- taken. If the worker was held, it took no turn after a `Limit` except to end its section. The
 -- gate was asked before each turn, also inside a section, until it returned `Limit`. If all turns
 -- are used, it may have let the worker pass at each.
-pub record WentBy (setup : Setup) (May : Go → ℕ → Type 0) (turns : ℕ) (old new : Working) (taken : ℕ) (stop : Stop) : Type 0 where
+pub record WentBy (setup : Setup) (May : Go → ℕ → Type 0) (turns : ℕ) (old new : Working)
+    (taken : ℕ) (stop : Stop) : Type 0 where
   pub took : Walked (cpu_step setup old.cpu) old.cpu old.private new.private (log new) taken
-  pub within : TookWithin (cpu_step setup old.cpu) old.cpu (MayTakeTurn turns (May Pass)) old.private new.private (log new) taken
-  pub held : stop ≡ Held → WasHeld (cpu_step setup old.cpu) old.cpu (May Limit) old.private new.private (log new) taken
+  pub within : TookWithin (cpu_step setup old.cpu) old.cpu (MayTakeTurn turns (May Pass))
+      old.private new.private (log new) taken
+  pub held : stop ≡ Held → WasHeld (cpu_step setup old.cpu) old.cpu (May Limit) old.private
+      new.private (log new) taken
   pub asked : AskedAtEach May taken
   pub used : stop ≡ TurnsUsed → PassedAtEach (May Pass) taken
   pub stop_is : IsTrueStop (halted_at setup old.cpu new.private) (May Limit) turns taken stop
 
 -- A worker has run. It is the same one, and none of its sections is under way. Each table of its
 -- plan gives its steps and its stop.
-pub record HasRun (May : CpuId → Go → ℕ → Type 0) (turns : ℕ) (old new : Working) (taken : ℕ) (stop : Stop) : Type 0 where
+pub record HasRun (May : CpuId → Go → ℕ → Type 0) (turns : ℕ) (old new : Working) (taken : ℕ)
+    (stop : Stop) : Type 0 where
   pub same : IsSame old new
   pub rests : is_inside new ≡ false
-  pub went : (setup : Setup) → IsPlanned setup old.plan → WentBy setup (May old.cpu) turns old new taken stop
+  pub went : (setup : Setup) → IsPlanned setup old.plan
+      → WentBy setup (May old.cpu) turns old new taken stop
 
 -- each element of the one list has its own in the other, in order
 abbrev pub Both : {A B : Type 0} → (A → B → Type 0) → List A → List B → Type 0

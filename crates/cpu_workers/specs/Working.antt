@@ -1,8 +1,12 @@
 -- A worker: one CPU with its machine, and one turn of it.
 use Rattle.std.specs.Prelude.{◌≡◌, ℕ, ◌+◌, Bool, List, Option, Some, None, slice_index_or}
-use Rattle.{event_log.specs.{declared.ids.{CpuId.CpuId, Tid.Tid}, Actions.{Action, phase}}, guest.specs.declared.instructions.Instruction.Instruction}
-use Rattle.{layer_traits.specs.{declared.steps.Step.{Step, TheVariants.Stepped}, Polling.{Along.IsStep, Plans.is_in_section}}, cpu.specs.Table.Blocks.Name}
-use Rattle.cpu.specs.{Table.{Setups.{Setup, Private, program_of}, Steps.{cpu_step, halted_at}}, Tower.{Composed.{busy_step_answer, named}, Views.TowerName}}
+use Rattle.event_log.specs.{declared.ids.{CpuId.CpuId, Tid.Tid}, Actions.{Action, phase}}
+use Rattle.guest.specs.declared.instructions.Instruction.{Instruction}
+use Rattle.layer_traits.specs.declared.steps.Step.{Step, TheVariants.Stepped}
+use Rattle.layer_traits.specs.Polling.{Along.IsStep, Plans.is_in_section}
+use Rattle.cpu.specs.Table.{Blocks.Name, Setups.{Setup, Private, program_of}, Steps.cpu_step}
+use Rattle.cpu.specs.{Table.Steps.halted_at, Tower.Composed.{busy_step_answer, named}}
+use Rattle.cpu.specs.Tower.Views.{TowerName}
 
 -- what no turn changes: the home of each thread, the capacity of each buffer, the programs of the
 -- home threads, and the trace's room
@@ -35,7 +39,8 @@ pub record IsPlanned (setup : Setup) (plan : Charge) : Type 0 where
   pub homes_are : setup.homes ≡ plan.homes
   pub caps_are : setup.caps ≡ plan.caps
   pub room_is : setup.trace_room ≡ plan.limit
-  pub programs_are : (t : Tid) (program : List Instruction) → slice_index_or plan.programs t.0 None ≡ Some program → program_of setup t ≡ program
+  pub programs_are : (t : Tid) (program : List Instruction)
+      → slice_index_or plan.programs t.0 None ≡ Some program → program_of setup t ≡ program
 
 -- what a worker keeps over its turns
 pub record IsSame (old new : Working) : Type 0 where
@@ -46,12 +51,14 @@ pub record IsSame (old new : Working) : Type 0 where
 -- a turn: other CPUs acted, and then this CPU took a step of the table with this result
 abbrev pub Turned : Working → Working → Step → Type 0
 Turned old new answer = (setup : Setup) → IsPlanned setup old.plan
-    → IsStep (λ c. c ≡ old.cpu) (cpu_step setup old.cpu) old.private new.private (log old) (log new) answer
+    → IsStep (λ c. c ≡ old.cpu) (cpu_step setup old.cpu) old.private new.private (log old) (log new)
+    answer
 
 -- so many turns, one after the other, each with a step of the table
 pub data TookTurns (old : Working) : ℕ → Working → Type 0 where
   no_turns : TookTurns old 0 old
-  one_more : {k : ℕ} {now new : Working} → TookTurns old k now → IsSame now new → Turned now new Stepped → TookTurns old (k + 1) new
+  one_more : {k : ℕ} {now new : Working} → TookTurns old k now → IsSame now new
+      → Turned now new Stepped → TookTurns old (k + 1) new
 
 -- The step table takes a step of the worker's CPU, whatever other CPUs do before it. A section of
 -- it is under way, or it is not halted.

@@ -65,7 +65,7 @@ impl Bells {
     // Rings one bell.
     fn strike(&self, bell: &Bell) {
         bell.rings.fetch_add(1, Ordering::SeqCst);
-        if bell.parked.swap(0, Ordering::SeqCst) != 0 {
+        if bell.parked.load(Ordering::SeqCst) != 0 && bell.parked.swap(0, Ordering::SeqCst) != 0 {
             self.awake.fetch_add(1, Ordering::SeqCst);
             bell.rings.wake_all();
         }
@@ -89,15 +89,16 @@ impl Bells {
         }
     }
 
-    /// Parks the CPU of a worker, as `park_native` does, unless no other CPU is awake. Then no CPU
-    /// can ring its bell, and parking is turned off.
+    /// Parks the CPU of a worker, as `park_native` does, unless no other CPU is awake and its bell
+    /// was not rung. Then no CPU can ring its bell, and parking is turned off.
     pub(crate) fn park_worker<R: Wait>(&self, rt: &R, cpu: CpuId, rung: u64) {
         if self.quiet.load(Ordering::SeqCst) != 0 {
             return;
         }
         if let Some(bell) = self.bells.get(usize::from(cpu.0)) {
             bell.parked.store(1, Ordering::SeqCst);
-            if self.awake.fetch_sub(1, Ordering::SeqCst) == 1 {
+            let is_last = self.awake.fetch_sub(1, Ordering::SeqCst) == 1;
+            if is_last && bell.rings.load(Ordering::SeqCst) == rung {
                 self.ring_all();
             }
             self.sleep(rt, bell, rung);

@@ -1,9 +1,8 @@
 //! The theorems on workers that run at one table. Each law is the contract of a function that does
 //! nothing, so that the law is proved with the crate.
 
-ghost use Rattle.cpu_workers.specs.{Closing.ReportsAreLawful, Laws.ActionsLetOrderGoOn, Laws.FrontsKeepOrder};
-ghost use Rattle.cpu_workers.specs.RealTime.{ReturnedComeFirst};
-ghost use Rattle.cpu_workers.specs.{Laws.StopsAreTrue, Laws.WorkersLoseNoWakeUp, ReportRuns.ReportsAreRuns};
+ghost use Rattle.cpu_workers.specs.{Closing.ReportsAreLawful, Laws.{ActionsLetOrderGoOn, FrontsKeepOrder, StopsAreTrue, WorkersLoseNoWakeUp}};
+ghost use Rattle.cpu_workers.specs.{RealTime.ReturnedComeFirst, ReportRuns.ReportsAreRuns};
 
 use crate::workers::Gate;
 

@@ -233,7 +233,8 @@ where
     requires started { All IsOk starts.items }
     requires empty { done.items ≡ [] }
     requires room { length starts.items ≤ vec_capacity done }
-    ensures { Both T.HasDone (map (task_of (λ s. s.child.promise.task.value)) starts.items) result.done.items }
+    ensures { Both T.HasDone (map (task_of (λ s. s.child.promise.task.value)) starts.items)
+        result.done.items }
 {
     for start in starts {
         let one = done_by(rt, start);

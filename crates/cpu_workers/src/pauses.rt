@@ -12,11 +12,10 @@ use std::thread;
 // threads that are not running, and each section waits for a context switch.
 pub(crate) const SPINS: u16 = 10_000;
 
-// Yields the processor if a worker's section is under way and no spins are left, and after each
-// turn that left its CPU idle. An idle CPU is nearly always inside the section of its pending
-// queue. If it is preempted there, every CPU that forwards a thread to it waits. Returns how many
-// spins are left. After a yield inside a section one spin is left, so that a worker whose poll
-// succeeds releases the lock before it yields again.
+// Yields the processor if a worker's section is under way and no spins are left. An idle CPU does
+// not yield: where other programs run, each yield gives the processor to one of them for
+// milliseconds. It waits for its bell instead. Returns how many spins are left. After a yield one
+// spin is left, so that a worker whose poll succeeds releases the lock before it yields again.
 pub(crate) fn pause(busy: bool, idle: bool, spins: u16) -> u16
     ensures { result ≡ spins_left busy spins }
 {
@@ -28,7 +27,7 @@ pub(crate) fn pause(busy: bool, idle: bool, spins: u16) -> u16
         return 1;
     }
     if idle {
-        thread::yield_now();
+        std::hint::spin_loop();
     }
     SPINS
 }

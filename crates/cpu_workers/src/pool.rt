@@ -62,9 +62,12 @@ fn group_of(alloc: Global, count: usize) -> Result<Vec<WaitGroup>, AllocError>
 fn supplies_for<T: Task + Drop>(alloc: Global, count: usize) -> Result<Supplies<T>, AllocError>
 where
     T::Done: Drop,
-    ensures starts { IfOk result (λ supplies. (supplies.starts.items ≡ []) × (count ≤ vec_capacity supplies.starts)) }
-    ensures done { IfOk result (λ supplies. (supplies.done.items ≡ []) × (count ≤ vec_capacity supplies.done)) }
-    ensures back { IfOk result (λ supplies. (supplies.back.items ≡ []) × (count ≤ vec_capacity supplies.back)) }
+    ensures starts { IfOk result
+        (λ supplies. (supplies.starts.items ≡ []) × (count ≤ vec_capacity supplies.starts)) }
+    ensures done { IfOk result
+        (λ supplies. (supplies.done.items ≡ []) × (count ≤ vec_capacity supplies.done)) }
+    ensures back { IfOk result
+        (λ supplies. (supplies.back.items ≡ []) × (count ≤ vec_capacity supplies.back)) }
 {
     Ok(Supplies {
         group: group_of(alloc, count)?,
@@ -123,7 +126,8 @@ where
     T::Done: Drop + Send + 's,
     requires may { All T.MayRun tasks.items }
     requires word { word.now.count.value ≡ length tasks.items }
-    requires starts { (supplies.starts.items ≡ []) × (length tasks.items ≤ vec_capacity supplies.starts) }
+    requires starts { (supplies.starts.items ≡ [])
+        × (length tasks.items ≤ vec_capacity supplies.starts) }
     requires done { (supplies.done.items ≡ []) × (length tasks.items ≤ vec_capacity supplies.done) }
     requires back { (supplies.back.items ≡ []) × (length tasks.items ≤ vec_capacity supplies.back) }
     ensures ran { IfOk result (λ joined. Both T.HasDone tasks.items joined.done.items) }
@@ -158,7 +162,8 @@ where
     T::Done: Drop + Send,
     requires may { All T.MayRun tasks.items }
     requires word { word.now.count.value ≡ length tasks.items }
-    requires starts { (supplies.starts.items ≡ []) × (length tasks.items ≤ vec_capacity supplies.starts) }
+    requires starts { (supplies.starts.items ≡ [])
+        × (length tasks.items ≤ vec_capacity supplies.starts) }
     requires done { (supplies.done.items ≡ []) × (length tasks.items ≤ vec_capacity supplies.done) }
     requires back { (supplies.back.items ≡ []) × (length tasks.items ≤ vec_capacity supplies.back) }
     ensures ran { IfOk result (λ joined. Both T.HasDone tasks.items joined.done.items) }
@@ -172,7 +177,8 @@ where
                 × (supplies.starts.items ≡ []) × (length tasks.items ≤ vec_capacity supplies.starts)
                 × (supplies.done.items ≡ []) × (length tasks.items ≤ vec_capacity supplies.done)
                 × (supplies.back.items ≡ []) × (length tasks.items ≤ vec_capacity supplies.back) }
-            ensures { IfOk result (λ joined. Both T.HasDone tasks.items joined.done.items) × IfErr result (λ r. r.back.items ≡ tasks.items) }
+            ensures { IfOk result (λ joined. Both T.HasDone tasks.items joined.done.items)
+                × IfErr result (λ r. r.back.items ≡ tasks.items) }
         { run_in(rt, scope, word, tasks, supplies) },
     )
 }

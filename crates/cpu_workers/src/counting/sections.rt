@@ -32,7 +32,8 @@ fn add_one<L: LockLayer<AddOne>, R: Wait>(
     ensures site { L.site machine.new ≡ L.site machine.old }
     ensures acts { (c : CpuId) → L.ActsFor machine.old c → L.ActsFor machine.new c }
     ensures outside { L.IsOutside machine.new (L.cpu_of part.old) }
-    ensures made { made (L.cpu_of part.old) lock (L.seen machine.new) ≡ made (L.cpu_of part.old) lock (L.seen machine.old) + 1 }
+    ensures made { made (L.cpu_of part.old) lock (L.seen machine.new)
+        ≡ made (L.cpu_of part.old) lock (L.seen machine.old) + 1 }
 {
     let mut spins = SPINS;
     for _ in rt.forever() {

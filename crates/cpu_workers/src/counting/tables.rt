@@ -3,8 +3,7 @@
 
 ghost use Rattle.std.specs.Prelude.{◌≡◌, ◌*◌, ◌<◌, ◌≤◌, ◌^◌, ◌⊎◌, [], ◌∷◌, IsErr, IsSome, IfOk, IfErr, IfSome, OnErr};
 ghost use Rattle.{event_log.specs.Refusals.no_memory, table_machine.specs.SeatViews.new_seat_views, cpu_workers.specs.Counts.IsUncounted};
-ghost use Rattle.cpu_workers.specs.declared.counting.counted.CountedAt.TheVariants.{Table as AtTable};
-ghost use Rattle.cpu_workers.specs.declared.refusals.WorkerError.TheVariants.{NoMemory as LacksMemory};
+ghost use Rattle.cpu_workers.specs.declared.{counting.counted.CountedAt.TheVariants.Table as AtTable, refusals.WorkerError.TheVariants.NoMemory as LacksMemory};
 
 use crate::by_kind;
 use crate::counting::counted::{Counted, number_left, number_untouched};
@@ -62,9 +61,11 @@ fn count_if_open<K: PlanWords + Sync, R: Threads + Wait + Sync>(
     ensures all { IfOk result (λ counted. counted.cpus ≡ cpus) }
     ensures times { IfOk result (λ counted. counted.times ≡ times) }
     ensures at { IfOk result (λ counted. counted.at ≡ AtTable) }
-    ensures none { IfErr result (λ not. IfSome not.left (λ left. IsUncounted left cpus K.lock_kind)) }
+    ensures none { IfErr result
+        (λ not. IfSome not.left (λ left. IsUncounted left cpus K.lock_kind)) }
     ensures closed { IfOk opened (λ _. IfErr result (λ not. IsSome not.left)) }
-    ensures memory { OnErr opened (IsErr result × IfErr result (λ not. not.fault ≡ LacksMemory no_memory)) }
+    ensures memory { OnErr opened
+        (IsErr result × IfErr result (λ not. not.fault ≡ LacksMemory no_memory)) }
 {
     let (shared, keys) = match opened {
         Ok(opened) => opened,

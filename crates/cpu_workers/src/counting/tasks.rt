@@ -48,7 +48,8 @@ struct Room<'a, K: PlanWords> {
 }
 
 fn room_for<'a, K: PlanWords>(alloc: Global, count: usize) -> Result<Room<'a, K>, AllocError>
-    ensures tasks { IfOk result (λ room. (room.tasks.items ≡ []) × (count ≤ vec_capacity room.tasks)) }
+    ensures tasks { IfOk result
+        (λ room. (room.tasks.items ≡ []) × (count ≤ vec_capacity room.tasks)) }
     ensures keys { IfOk result (λ room. (room.keys.items ≡ []) × (count ≤ vec_capacity room.keys)) }
 {
     Ok(Room {
@@ -66,7 +67,8 @@ fn all_counting<'a, K: PlanWords>(
 ) -> Vec<Counting<'a, K>>
     requires empty { tasks.items ≡ [] }
     requires room { length keys.items ≤ vec_capacity tasks }
-    ensures { Both (λ key t. (t.key ≡ key) × (t.shared.now ≡ shared.now) × (t.times ≡ times)) keys.items result.items }
+    ensures { Both (λ key t. (t.key ≡ key) × (t.shared.now ≡ shared.now) × (t.times ≡ times))
+        keys.items result.items }
 {
     for key in keys {
         let task = Counting { shared, key, times };

@@ -56,7 +56,8 @@ impl<E: SplitEdit, N: Drop> NativeBack<E, N> {
     // Makes room for what so many natives leave.
     fn with_capacity(alloc: Global, count: usize) -> Result<NativeBack<E, N>, AllocError>
         ensures keys { IfOk result (λ b. (b.keys.items ≡ []) × (count ≤ vec_capacity b.keys)) }
-        ensures natives { IfOk result (λ b. (b.natives.items ≡ []) × (count ≤ vec_capacity b.natives)) }
+        ensures natives { IfOk result
+            (λ b. (b.natives.items ≡ []) × (count ≤ vec_capacity b.natives)) }
     {
         Ok(NativeBack {
             keys: Vec::with_capacity(alloc, count)?,
@@ -104,7 +105,8 @@ fn call_tickets<N: Native + Drop + Send, R: Threads + Wait + Sync>(
     requires needs { All (λ n. N.Needs n caps.now) natives.items }
     requires keys { keys.items ≡ new_seat_views shared.now (length natives.items) }
     requires opens { OpensWith (length natives.items) caps.now homes.now (opened shared.now.start) }
-    ensures { IfOk result (λ b. HaveLeftKeys N.Kept caps.now shared.now natives.items b.natives.items b.keys.items) }
+    ensures { IfOk result (λ b. HaveLeftKeys N.Kept caps.now shared.now natives.items
+        b.natives.items b.keys.items) }
 {
     let back = NativeBack::with_capacity(alloc, natives.len())?;
     let bells = Bells::new(alloc, natives.len())?;
@@ -189,7 +191,8 @@ pub fn run_native<N: Native + Drop + Send, R: Threads + Wait + Sync>(
     requires buffers { length caps.now ≤ BUFFERS }
     requires capacities { All IsCapacity caps.now }
     requires needs { All (λ n. N.Needs n caps.now) natives.items }
-    ensures { IfOk result (λ r. HaveRun N.Kept caps.now natives.items r.natives.items (left_among (length caps.now) r.blocks.items)) }
+    ensures { IfOk result (λ r. HaveRun N.Kept caps.now natives.items r.natives.items
+        (left_among (length caps.now) r.blocks.items)) }
 {
     let count = natives.len();
     let homes = native_homes(count);

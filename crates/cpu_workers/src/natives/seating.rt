@@ -42,12 +42,16 @@ where
     requires buffers { length caps.now ≤ BUFFERS }
     requires threads { length homes.now ≤ THREADS }
     requires unused { (k : ℕ) (m : I.Machine) → slice_get machines.items k ≡ Some m
-        → IsUnused (I.IsFresh m homes.now (cpu_at k)) (homes_in (I.opening m) ≡ homes.now) (caps_in (I.opening m) ≡ caps.now)
-        (I.seen m ≡ []) (I.acts m ≡ []) (inner (I.opening m) ≡ opening_locks (caps_in (I.opening m))) }
+        → IsUnused (I.IsFresh m homes.now (cpu_at k)) (homes_in (I.opening m) ≡ homes.now)
+        (caps_in (I.opening m) ≡ caps.now)
+        (I.seen m ≡ []) (I.acts m ≡ [])
+        (inner (I.opening m) ≡ opening_locks (caps_in (I.opening m))) }
     ensures count { IfOk result (λ tasks. length tasks.items ≡ length machines.items) }
     ensures each { IfOk result (λ tasks. (k : ℕ) (t : _) → slice_get tasks.items k ≡ Some t
-        → IsNewCaller caps.now (cpu_at k) t.caller × (slice_get natives.items k ≡ Some t.native)
-        × ((m : I.Machine) → slice_get machines.items k ≡ Some m → t.caller.site ≡ I.site m)) }
+        → IsNewCaller caps.now (cpu_at k) t.caller.value
+        × (slice_get natives.items k ≡ Some t.native)
+        × ((m : I.Machine) → slice_get machines.items k ≡ Some m
+        → t.caller.value.site ≡ I.site m)) }
 {
     let mut machines = machines;
     let mut natives = natives;
@@ -63,6 +67,7 @@ where
             homes,
             caps.len() as u8,
         );
+        let caller = Box::new(alloc, caller)?;
         tasks.push_reserved(NativeTask { caller, native });
     }
     Ok(tasks)
@@ -75,13 +80,14 @@ fn left_by<I: CallLayer<IpcLaw> + Drop, N: Native + Drop>(
 where
     I::Machine: Drop + Hints,
     requires stepwise { I.IsStepwise }
-    ensures machine { HasLeftMachine task.caller (I.acts result.machine) (I.site result.machine) }
-    ensures owns { I.ActsFor result.machine task.caller.cpu }
+    ensures machine { HasLeftMachine task.caller.value (I.acts result.machine)
+        (I.site result.machine) }
+    ensures owns { I.ActsFor result.machine task.caller.value.cpu }
     ensures native { result.native ≡ task.native }
 {
     let NativeTask { caller, native } = task;
     LeftNative {
-        machine: caller.into_machine(),
+        machine: Box::into_inner(caller).into_machine(),
         native,
     }
 }
@@ -96,7 +102,8 @@ where
     requires stepwise { I.IsStepwise }
     requires empty { left.items ≡ [] }
     requires room { length done.items ≤ vec_capacity left }
-    ensures { Both (λ d x. HasLeftMachine d.caller (I.acts x.machine) (I.site x.machine) × I.ActsFor x.machine d.caller.cpu
+    ensures { Both (λ d x. HasLeftMachine d.caller.value (I.acts x.machine) (I.site x.machine)
+        × I.ActsFor x.machine d.caller.value.cpu
         × (x.native ≡ d.native)) done.items result.items }
 {
     for one in done {
@@ -129,13 +136,21 @@ where
     requires threads { length homes.now ≤ THREADS }
     requires needs { All (λ n. N.Needs n caps.now) natives.items }
     requires unused { (k : ℕ) (m : I.Machine) → slice_get machines.items k ≡ Some m
-        → IsUnused (I.IsFresh m homes.now (cpu_at k)) (homes_in (I.opening m) ≡ homes.now) (caps_in (I.opening m) ≡ caps.now)
-        (I.seen m ≡ []) (I.acts m ≡ []) (inner (I.opening m) ≡ opening_locks (caps_in (I.opening m))) }
+        → IsUnused (I.IsFresh m homes.now (cpu_at k)) (homes_in (I.opening m) ≡ homes.now)
+        (caps_in (I.opening m) ≡ caps.now)
+        (I.seen m ≡ []) (I.acts m ≡ [])
+        (inner (I.opening m) ≡ opening_locks (caps_in (I.opening m))) }
     ensures count { IfOk result (λ left. length left.items ≡ length machines.items) }
-    ensures site { IfOk result (λ left. (k : ℕ) (x : _) (m : I.Machine) → slice_get left.items k ≡ Some x → slice_get machines.items k ≡ Some m
+    ensures site { IfOk result
+        (λ left. (k : ℕ) (x : _) (m : I.Machine) → slice_get left.items k ≡ Some x
+        → slice_get machines.items k ≡ Some m
         → I.site x.machine ≡ I.site m) }
-    ensures owns { IfOk result (λ left. (k : ℕ) (x : _) → slice_get left.items k ≡ Some x → I.ActsFor x.machine (cpu_at k)) }
-    ensures left { IfOk result (λ left. (k : ℕ) (x : _) (n : N) → slice_get left.items k ≡ Some x → slice_get natives.items k ≡ Some n
+    ensures owns { IfOk result
+        (λ left. (k : ℕ) (x : _) → slice_get left.items k ≡ Some x
+        → I.ActsFor x.machine (cpu_at k)) }
+    ensures left { IfOk result
+        (λ left. (k : ℕ) (x : _) (n : N) → slice_get left.items k ≡ Some x
+        → slice_get natives.items k ≡ Some n
         → HasLeftCalls N.Kept caps.now (cpu_at k) n x.native (I.acts x.machine)) }
 {
     let left = Vec::with_capacity(alloc, machines.len())?;
@@ -172,13 +187,20 @@ where
     requires threads { length homes.now ≤ THREADS }
     requires needs { All (λ n. N.Needs n caps.now) natives.items }
     requires ready { (k : ℕ) (m : L.Machine) → slice_get machines.items k ≡ Some m
-        → IsReadySeat (L.ActsFor m (cpu_at k)) (L.IsOutside m (cpu_at k)) (L.seen m ≡ []) (L.acts m ≡ [])
+        → IsReadySeat (L.ActsFor m (cpu_at k)) (L.IsOutside m (cpu_at k)) (L.seen m ≡ [])
+        (L.acts m ≡ [])
         (OpensWith (length machines.items) caps.now homes.now (L.opening m)) }
     ensures count { IfOk result (λ left. length left.items ≡ length machines.items) }
-    ensures site { IfOk result (λ left. (k : ℕ) (x : _) (m : L.Machine) → slice_get left.items k ≡ Some x → slice_get machines.items k ≡ Some m
+    ensures site { IfOk result
+        (λ left. (k : ℕ) (x : _) (m : L.Machine) → slice_get left.items k ≡ Some x
+        → slice_get machines.items k ≡ Some m
         → L.site x.machine ≡ L.site m) }
-    ensures owns { IfOk result (λ left. (k : ℕ) (x : _) → slice_get left.items k ≡ Some x → L.ActsFor x.machine (cpu_at k)) }
-    ensures left { IfOk result (λ left. (k : ℕ) (x : _) (n : N) → slice_get left.items k ≡ Some x → slice_get natives.items k ≡ Some n
+    ensures owns { IfOk result
+        (λ left. (k : ℕ) (x : _) → slice_get left.items k ≡ Some x
+        → L.ActsFor x.machine (cpu_at k)) }
+    ensures left { IfOk result
+        (λ left. (k : ℕ) (x : _) (n : N) → slice_get left.items k ≡ Some x
+        → slice_get natives.items k ≡ Some n
         → HasLeftCalls N.Kept caps.now (cpu_at k) n x.native (tower_acts (L.acts x.machine))) }
 {
     let _laws: TowerLaws = PhantomData;

@@ -136,7 +136,8 @@ where
     /// Requires: there is such a buffer. Errors: `Closed` if the buffer is closed by then.
     pub fn send<R: Wait>(&mut self, rt: &R, to: BufId, message: &Msg) -> Result<(), Closed>
         requires { to.0 < length self.old.caps }
-        ensures { HasMadeCall self.old self.new (if is_ok result then kind.Send else kind.SendClosed) to message.now }
+        ensures { HasMadeCall self.old self.new
+            (if is_ok result then kind.Send else kind.SendClosed) to message.now }
     {
         match self.make(rt, &Call::Send(to, *message)) {
             Reply::Closed => Err(Closed),

@@ -29,7 +29,8 @@ pub(crate) enum Begun {
 fn choose<I: CallLayer<IpcLaw>>(part: &I, t: Tid) -> Begun
     ensures may { MayBegin t (threads_in (I.own part.now)) result }
     ensures hand { result ≡ Calls → (threads_in (I.own part.now)).hand ≡ None }
-    ensures calls { (threads_in (I.own part.now)).hand ≡ None → (threads_in (I.own part.now)).current ≡ Some t → result ≡ Calls }
+    ensures calls { (threads_in (I.own part.now)).hand ≡ None
+        → (threads_in (I.own part.now)).current ≡ Some t → result ≡ Calls }
 {
     if let Some(woken) = part.hand() {
         return Begun::Passes(Pass::MakeReady(woken));
@@ -62,7 +63,8 @@ fn poll_pass<I: CallLayer<IpcLaw>>(
     ensures under_way { I.under_way part.new ≡ begun_under_way t result }
     ensures may { MayPollBegun t (threads_in (I.own part.new)) result }
     ensures ended { (threads_in (I.own part.new)).ended ≡ (threads_in (I.own part.old)).ended }
-    ensures on { KeepsOn (I.cpu_of part.old) t call.now (I.own part.old).call_states (I.own part.new).call_states (I.seen m.old) (I.seen m.new) }
+    ensures on { KeepsOn (I.cpu_of part.old) t call.now (I.own part.old).call_states
+        (I.own part.new).call_states (I.seen m.old) (I.seen m.new) }
 {
     let _ = t;
     let _ = call;
@@ -92,10 +94,16 @@ fn poll_call<I: CallLayer<IpcLaw>>(
     ensures site { I.site m.new ≡ I.site m.old }
     ensures ended { (threads_in (I.own part.new)).ended ≡ (threads_in (I.own part.old)).ended }
     ensures runs { IfOk result (λ reply. (threads_in (I.own part.new)).current ≡ Some t) }
-    ensures goes { IfErr result (λ begun. (I.under_way part.new ≡ begun_under_way t begun) × MayPollBegun t (threads_in (I.own part.new)) begun
-        × KeepsOn (I.cpu_of part.old) t call.now (I.own part.old).call_states (I.own part.new).call_states (I.seen m.old) (I.seen m.new)) }
-    ensures ends { IfOk result (λ reply. (I.under_way part.new ≡ None) × ((call_state_of (I.own part.new).call_states t).stage ≡ Idle)
-        × EndsCall (I.cpu_of part.old) t call.now reply (I.own part.old).call_states (I.seen m.old) (I.seen m.new)) }
+    ensures goes { IfErr result
+        (λ begun. (I.under_way part.new ≡ begun_under_way t begun)
+        × MayPollBegun t (threads_in (I.own part.new)) begun
+        × KeepsOn (I.cpu_of part.old) t call.now (I.own part.old).call_states
+        (I.own part.new).call_states (I.seen m.old) (I.seen m.new)) }
+    ensures ends { IfOk result
+        (λ reply. (I.under_way part.new ≡ None)
+        × ((call_state_of (I.own part.new).call_states t).stage ≡ Idle)
+        × EndsCall (I.cpu_of part.old) t call.now reply (I.own part.old).call_states (I.seen m.old)
+        (I.seen m.new)) }
 {
     match part.poll(m, t, call) {
         Some(reply) => Ok(reply),
@@ -125,10 +133,16 @@ fn poll_once<I: CallLayer<IpcLaw>>(
     ensures site { I.site m.new ≡ I.site m.old }
     ensures ended { (threads_in (I.own part.new)).ended ≡ (threads_in (I.own part.old)).ended }
     ensures runs { IfOk result (λ reply. (threads_in (I.own part.new)).current ≡ Some t) }
-    ensures goes { IfErr result (λ begun. (I.under_way part.new ≡ begun_under_way t begun) × MayPollBegun t (threads_in (I.own part.new)) begun
-        × KeepsOn (I.cpu_of part.old) t call.now (I.own part.old).call_states (I.own part.new).call_states (I.seen m.old) (I.seen m.new)) }
-    ensures ends { IfOk result (λ reply. (I.under_way part.new ≡ None) × ((call_state_of (I.own part.new).call_states t).stage ≡ Idle)
-        × EndsCall (I.cpu_of part.old) t call.now reply (I.own part.old).call_states (I.seen m.old) (I.seen m.new)) }
+    ensures goes { IfErr result
+        (λ begun. (I.under_way part.new ≡ begun_under_way t begun)
+        × MayPollBegun t (threads_in (I.own part.new)) begun
+        × KeepsOn (I.cpu_of part.old) t call.now (I.own part.old).call_states
+        (I.own part.new).call_states (I.seen m.old) (I.seen m.new)) }
+    ensures ends { IfOk result
+        (λ reply. (I.under_way part.new ≡ None)
+        × ((call_state_of (I.own part.new).call_states t).stage ≡ Idle)
+        × EndsCall (I.cpu_of part.old) t call.now reply (I.own part.old).call_states (I.seen m.old)
+        (I.seen m.new)) }
 {
     if part.look(m) {
         return Err(begun);
@@ -175,7 +189,8 @@ where
     ensures site { I.site m.new ≡ I.site m.old }
     ensures ended { (threads_in (I.own part.new)).ended ≡ (threads_in (I.own part.old)).ended }
     ensures runs { (threads_in (I.own part.new)).current ≡ Some t }
-    ensures returned { Returned (I.cpu_of part.old) t call.now result (I.seen m.old) (I.seen m.new) }
+    ensures returned { Returned (I.cpu_of part.old) t call.now result (I.seen m.old)
+        (I.seen m.new) }
 {
     manners.begin(m, call.buffer());
     let mut begun: Option<Begun> = None;

@@ -44,10 +44,12 @@ const LAST_REST: usize = 32_000;
 // How many pauses the sleeper to which the CPU passed the lock may take to arrive.
 const PATIENCE: u16 = 4;
 
-// How many pauses a wait has at most, and how often a pause yields the processor.
+// How many pauses a wait has at most.
 const MOST_PAUSES: u16 = 100;
 
-const YIELDS: u16 = 6;
+// How many spin loops a pause has. They take about as long as six yields of a processor that no
+// other thread wants. A pause does not yield: where other programs run, a yield takes milliseconds.
+const SPIN_LOOPS: u16 = 96;
 
 // The last event between two sections that bears on the next call.
 #[derive(Clone, Copy, Drop)]
@@ -279,7 +281,8 @@ impl Manners {
 
 // Returns whether no thread runs on the CPU, is in its hand or is ready there.
 pub(crate) fn is_idle<I: CallLayer<IpcLaw>>(part: &I) -> bool
-    ensures { result ≡ is_idle (threads_in (I.own part.now)).current (threads_in (I.own part.now)).hand (threads_in (I.own part.now)).ready }
+    ensures { result ≡ is_idle (threads_in (I.own part.now)).current
+        (threads_in (I.own part.now)).hand (threads_in (I.own part.now)).ready }
 {
     match (part.current(), part.hand()) {
         (None, None) => !part.has_ready(),
@@ -289,7 +292,7 @@ pub(crate) fn is_idle<I: CallLayer<IpcLaw>>(part: &I) -> bool
 
 // Pauses until the lock is still: no CPU drew a ticket at the buffer's lock during one pause. If
 // none was drawn since the start, it pauses `patience` times. Returns the number of pauses, at most
-// `MOST_PAUSES`.
+// `MOST_PAUSES`. After so many it yields, because other CPUs need the lock all the time.
 fn await_still<H: Hints>(machine: &H, buffer: BufId, patience: u16) -> u16
     ensures { result ≤ MOST_PAUSES }
 {
@@ -308,12 +311,13 @@ fn await_still<H: Hints>(machine: &H, buffer: BufId, patience: u16) -> u16
         }
         seen = now;
     }
+    thread::yield_now();
     MOST_PAUSES
 }
 
-// Yields the processor `YIELDS` times.
+// Pauses once.
 fn breathe() {
-    for _ in 0..YIELDS {
-        thread::yield_now();
+    for _ in 0..SPIN_LOOPS {
+        std::hint::spin_loop();
     }
 }

@@ -40,7 +40,8 @@ impl<E: SplitEdit> Back<E> {
     // Makes room for what so many workers leave.
     fn with_capacity(alloc: Global, count: usize) -> Result<Back<E>, AllocError>
         ensures keys { IfOk result (λ b. (b.keys.items ≡ []) × (count ≤ vec_capacity b.keys)) }
-        ensures traces { IfOk result (λ b. (b.traces.items ≡ []) × (count ≤ vec_capacity b.traces)) }
+        ensures traces { IfOk result
+            (λ b. (b.traces.items ≡ []) × (count ≤ vec_capacity b.traces)) }
         ensures stops { IfOk result (λ b. (b.stops.items ≡ []) × (count ≤ vec_capacity b.stops)) }
         ensures taken { IfOk result (λ b. (b.taken.items ≡ []) × (count ≤ vec_capacity b.taken)) }
     {
@@ -81,7 +82,8 @@ fn parted<K: TableWords>(
     requires stops { (back.stops.items ≡ []) × (length left.items ≤ vec_capacity back.stops) }
     requires taken { (back.taken.items ≡ []) × (length left.items ≤ vec_capacity back.taken) }
     ensures keys { result.keys.items ≡ map (λ x. x.machine) left.entry.items }
-    ensures traces { map (λ t. t.items) result.traces.items ≡ map (λ x. x.trace.items) left.entry.items }
+    ensures traces { map (λ t. t.items) result.traces.items
+        ≡ map (λ x. x.trace.items) left.entry.items }
     ensures stops { result.stops.items ≡ map (λ x. x.did.stop) left.entry.items }
     ensures taken { result.taken.items ≡ map (λ x. x.did.taken) left.entry.items }
 {
@@ -125,7 +127,8 @@ fn run_tickets<K: PlanWords + Sync, G: Gate + Sync, R: Threads + Wait + Sync>(
     requires lock { boot.now.lock ≡ K.lock_kind }
     requires keys { keys.items ≡ new_seat_views shared.now boot.now.cpus }
     requires opens { OpensPlan boot.now (opened shared.now.start) }
-    ensures { IfOk result (λ b. HaveLeft boot.now (G.MayAnswer gate.now) turns shared.now b.keys.items (map (λ t. t.items) b.traces.items) b.taken.items
+    ensures { IfOk result (λ b. HaveLeft boot.now (G.MayAnswer gate.now) turns shared.now
+        b.keys.items (map (λ t. t.items) b.traces.items) b.taken.items
         b.stops.items) }
 {
     let back = Back::with_capacity(alloc, boot.cpus() as usize)?;
@@ -182,11 +185,13 @@ fn run_words<K: PlanWords + Sync, G: Gate + Sync, R: Threads + Wait + Sync>(
     gate: &G,
 ) -> Result<Report, WorkerError>
     requires lock { boot.now.lock ≡ K.lock_kind }
-    ensures lawful { IfOk result (λ r. IsLawfulReport (setup_for boot.now) (G.MayAnswer gate.now) turns
+    ensures lawful { IfOk result
+        (λ r. IsLawfulReport (setup_for boot.now) (G.MayAnswer gate.now) turns
         (shown (map (λ t. t.items) r.traces.items) r.taken.items r.stops.items r.blocks.items)) }
     ensures words { IfOk result (λ r. HasWords boot.now (G.MayAnswer gate.now) turns
         (shown (map (λ t. t.items) r.traces.items) r.taken.items r.stops.items r.blocks.items)) }
-    ensures is_run { IfOk result (λ r. IsReportOfRun (setup_for boot.now) (G.MayAnswer gate.now) turns
+    ensures is_run { IfOk result
+        (λ r. IsReportOfRun (setup_for boot.now) (G.MayAnswer gate.now) turns
         (shown (map (λ t. t.items) r.traces.items) r.taken.items r.stops.items r.blocks.items)) }
     ensures lock { IfOk result (λ r. r.closed.lock ≡ boot.now.lock) }
     ensures closed { IfOk result (λ r. r.closed.blocks.value ≡ r.blocks) }
@@ -225,12 +230,14 @@ pub fn run_workers<G: Gate + Sync, R: Threads + Wait + Sync>(
     turns: u64,
     gate: &G,
 ) -> Result<Report, WorkerError>
-    ensures lawful { IfOk result (λ r. IsLawfulReport (setup_for boot.now) (G.MayAnswer gate.now) turns
+    ensures lawful { IfOk result
+        (λ r. IsLawfulReport (setup_for boot.now) (G.MayAnswer gate.now) turns
         (shown (map (λ t. t.items) r.traces.items) r.taken.items r.stops.items r.blocks.items)) }
     ensures words { IfOk result (λ r. HasWords boot.now (G.MayAnswer gate.now) turns
         (shown (map (λ t. t.items) r.traces.items) r.taken.items r.stops.items r.blocks.items)) }
     // Simulation: what the threads did, the step table's system does under some schedule.
-    ensures is_run { IfOk result (λ r. IsReportOfRun (setup_for boot.now) (G.MayAnswer gate.now) turns
+    ensures is_run { IfOk result
+        (λ r. IsReportOfRun (setup_for boot.now) (G.MayAnswer gate.now) turns
         (shown (map (λ t. t.items) r.traces.items) r.taken.items r.stops.items r.blocks.items)) }
     ensures lock { IfOk result (λ r. r.closed.lock ≡ boot.now.lock) }
     ensures closed { IfOk result (λ r. r.closed.blocks.value ≡ r.blocks) }

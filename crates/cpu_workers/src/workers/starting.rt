@@ -71,7 +71,9 @@ fn all_turning<'a, I: CallLayer<IpcLaw> + Drop, G: Gate>(
 ) -> Result<Vec<Turning<'a, I, G>>, AllocError>
 where
     I::Machine: Drop,
-    ensures { IfOk result (λ tasks. Both (λ w t. (t.worker ≡ w) × (t.gate.now ≡ gate.now) × (t.turns ≡ turns)) workers.items tasks.items) }
+    ensures { IfOk result (λ tasks. Both
+        (λ w t. (t.worker ≡ w) × (t.gate.now ≡ gate.now) × (t.turns ≡ turns)) workers.items
+        tasks.items) }
 {
     let mut tasks = Vec::with_capacity(alloc, workers.len())?;
     for worker in workers {
@@ -105,7 +107,9 @@ pub fn work_all<I: CallLayer<IpcLaw> + Drop + Send, G: Gate + Sync, R: Threads +
 where
     I::Machine: Drop + Send + Hints,
     requires { All (λ w. w.acts ≡ []) workers.items }
-    ensures { IfOk result (λ came. Both (λ w c. HasRun (G.MayAnswer gate.now) turns w c.worker c.did.taken c.did.stop) workers.items came.done.items) }
+    ensures { IfOk result (λ came. Both
+        (λ w c. HasRun (G.MayAnswer gate.now) turns w c.worker c.did.taken c.did.stop) workers.items
+        came.done.items) }
 {
     let tasks = all_turning(alloc, gate, workers, turns)?;
     match run_all(rt, alloc, tasks) {

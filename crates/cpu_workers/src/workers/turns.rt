@@ -30,7 +30,8 @@ pub struct Did {
 fn at_once<G: Gate>(gate: &G, cpu: CpuId, taken: u64, turns: u64, held: bool) -> usize
     ensures some { 0 < result }
     ensures free { 1 < result → (held ≡ false) × (taken + result ≤ turns) }
-    ensures open { 1 < result → (k : ℕ) → taken ≤ k → k < taken + result → G.MayAnswer gate.now cpu Pass k }
+    ensures open { 1 < result → (k : ℕ) → taken ≤ k → k < taken + result
+        → G.MayAnswer gate.now cpu Pass k }
 {
     if held || turns <= taken {
         return 1;
@@ -83,7 +84,8 @@ fn ask_if_free<I: CallLayer<IpcLaw> + Drop, G: Gate>(
 )
 where
     I::Machine: Drop,
-    ensures limits { held.new ≡ true → (held.old ≡ true) ⊎ G.MayAnswer gate.now worker.now.cpu Limit taken }
+    ensures limits { held.new ≡ true
+        → (held.old ≡ true) ⊎ G.MayAnswer gate.now worker.now.cpu Limit taken }
     ensures passes { held.new ≡ false → G.MayAnswer gate.now worker.now.cpu Pass taken }
     ensures kept { held.old ≡ true → held.new ≡ true }
 {
@@ -103,17 +105,23 @@ fn before<I: CallLayer<IpcLaw> + Drop, G: Gate>(
 ) -> Option<Stop>
 where
     I::Machine: Drop,
-    ensures held { held.new ≡ true → (held.old ≡ true) ⊎ G.MayAnswer gate.now worker.now.cpu Limit taken }
+    ensures held { held.new ≡ true
+        → (held.old ≡ true) ⊎ G.MayAnswer gate.now worker.now.cpu Limit taken }
     ensures kept { held.old ≡ true → held.new ≡ true }
     // The worker continues between two sections only if there was no `Limit` and fewer turns than
     // `turns` are taken. If there was none, the gate was asked with their number, and let the CPU
     // pass.
-    ensures may_take { result ≡ None → (is_inside worker.now ≡ true) ⊎ ((held.new ≡ false) × (taken < turns)) }
-    ensures passes { result ≡ None → held.new ≡ false → G.MayAnswer gate.now worker.now.cpu Pass taken }
-    ensures goes { result ≡ None → (setup : Setup) → IsPlanned setup worker.now.plan → MayStep setup worker.now }
+    ensures may_take { result ≡ None
+        → (is_inside worker.now ≡ true) ⊎ ((held.new ≡ false) × (taken < turns)) }
+    ensures passes { result ≡ None → held.new ≡ false
+        → G.MayAnswer gate.now worker.now.cpu Pass taken }
+    ensures goes { result ≡ None → (setup : Setup) → IsPlanned setup worker.now.plan
+        → MayStep setup worker.now }
     ensures rests { (stop : _) → result ≡ Some stop → is_inside worker.now ≡ false }
-    ensures stops { (stop : _) → result ≡ Some stop → (setup : Setup) → IsPlanned setup worker.now.plan
-        → IsTrueStop (halted_at setup worker.now.cpu worker.now.private) (λ turn. held.new ≡ true) turns taken stop }
+    ensures stops { (stop : _) → result ≡ Some stop → (setup : Setup)
+        → IsPlanned setup worker.now.plan
+        → IsTrueStop (halted_at setup worker.now.cpu worker.now.private) (λ turn. held.new ≡ true)
+        turns taken stop }
     ensures used { result ≡ Some TurnsUsed → held.new ≡ false }
 {
     if worker.is_busy() {

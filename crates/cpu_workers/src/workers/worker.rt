@@ -72,16 +72,25 @@ where
         requires stepwise { I.IsStepwise }
         requires fits { I.Fits cpu.part machine }
         requires number { I.cpu_of cpu.part ≡ cpu.number }
-        requires is { IsCpu (homes_in (I.opening machine)) (length (caps_in (I.opening machine))) (I.seen machine) (threads_in (I.own cpu.part))
-            (I.own cpu.part).call_states (I.under_way cpu.part) cpu.number cpu.guests.items cpu.trace.items cpu.limit (vec_capacity cpu.trace) }
-        requires tabled { IsTabled (homes_in (I.opening machine)) (caps_in (I.opening machine)) cpu.number (I.own cpu.part) (I.under_way cpu.part)
+        requires is { IsCpu (homes_in (I.opening machine)) (length (caps_in (I.opening machine)))
+            (I.seen machine) (threads_in (I.own cpu.part))
+            (I.own cpu.part).call_states (I.under_way cpu.part) cpu.number cpu.guests.items
+            cpu.trace.items cpu.limit (vec_capacity cpu.trace) }
+        requires tabled { IsTabled (homes_in (I.opening machine)) (caps_in (I.opening machine))
+            cpu.number (I.own cpu.part) (I.under_way cpu.part)
             cpu.guests.items (I.opening machine) }
         requires room { (m : I.Machine) → 0 < I.room m }
         requires opens { inner (I.opening machine) ≡ opening_locks (caps_in (I.opening machine)) }
         ensures cpu { result.cpu ≡ cpu.number }
         ensures plan { result.plan
-            ≡ record { homes = homes_in (I.opening machine); caps = caps_in (I.opening machine); programs = programs_of cpu.guests.items; limit = cpu.limit } }
-        ensures private { result.private ≡ private (I.own cpu.part) cpu.guests.items cpu.trace.items }
+            ≡ record {
+              homes = homes_in (I.opening machine);
+              caps = caps_in (I.opening machine);
+              programs = programs_of cpu.guests.items;
+              limit = cpu.limit;
+            } }
+        ensures private { result.private
+            ≡ private (I.own cpu.part) cpu.guests.items cpu.trace.items }
         ensures acts { result.acts ≡ I.acts machine }
         ensures site { result.site ≡ I.site machine }
     {
@@ -130,8 +139,14 @@ where
         requires opens { inner (I.opening machine) ≡ opening_locks (caps_in (I.opening machine)) }
         ensures cpu { IfOk result (λ w. w.cpu ≡ number) }
         ensures plan { IfOk result (λ w. w.plan
-            ≡ record { homes = homes_in (I.opening machine); caps = caps_in (I.opening machine); programs = programs_of guests.items; limit = limit }) }
-        ensures boots { IfOk result (λ w. (setup : Setup) → setup.homes ≡ homes.now → w.private ≡ boot_of setup number) }
+            ≡ record {
+              homes = homes_in (I.opening machine);
+              caps = caps_in (I.opening machine);
+              programs = programs_of guests.items;
+              limit = limit;
+            }) }
+        ensures boots { IfOk result
+            (λ w. (setup : Setup) → setup.homes ≡ homes.now → w.private ≡ boot_of setup number) }
         ensures acts { IfOk result (λ w. w.acts ≡ I.acts machine) }
         ensures site { IfOk result (λ w. w.site ≡ I.site machine) }
     {
@@ -158,7 +173,8 @@ where
     /// within its room, each of its entries is of a home thread, and each of these threads has
     /// followed its program.
     pub fn keeps(&self)
-        ensures trace { IsTraceOf self.now.cpu self.now.plan.caps self.now.acts self.now.private.trace }
+        ensures trace { IsTraceOf self.now.cpu self.now.plan.caps self.now.acts
+            self.now.private.trace }
         ensures legal { AreLegal self.now.acts }
         ensures follows { HasFollowed self.now }
     {
@@ -209,7 +225,8 @@ where
     /// Returns why the CPU takes no step while no section of it is under way: `AllEnded` or
     /// `TraceFull`.
     pub fn halted(&self) -> Option<Reason>
-        ensures is { (setup : Setup) → IsPlanned setup self.now.plan → halted_at setup self.now.cpu self.now.private ≡ result }
+        ensures is { (setup : Setup) → IsPlanned setup self.now.plan
+            → halted_at setup self.now.cpu self.now.private ≡ result }
         ensures own { result ≢ Some StepsUsed }
     {
         self.cpu.halted()
@@ -220,7 +237,8 @@ where
     /// may run after it.
     pub(crate) fn turns(&mut self, most: usize) -> usize
         requires { 0 < most }
-        ensures some { (setup : Setup) → IsPlanned setup self.old.plan → MayStep setup self.old → 0 < result }
+        ensures some { (setup : Setup) → IsPlanned setup self.old.plan → MayStep setup self.old
+            → 0 < result }
         ensures few { result ≤ most }
         ensures took { TookTurns self.old result self.new }
     {

@@ -5,7 +5,7 @@ use Rattle.cpu_workers.proofs.natives.seating.call_each.Goals as goal
 
 pub run_all-requires-after_bounds : goal.run_all-requires-after_bounds
 run_all-requires-after_bounds g c κs within =
-    all_ready g.N.Native.Needs (λ t. t.caller) (λ t. t.native) c.args.caps.now c.args.natives.items c.in_ok-tasks.tasks.items c.requires.needs
+    all_ready g.N.Native.Needs (λ t. t.caller.value) (λ t. t.native) c.args.caps.now c.args.natives.items c.in_ok-tasks.tasks.items c.requires.needs
     (λ k t at. let e = c.in_ok-tasks.ensures.each k t at in (e.0, e.1))
 
 pub all_left-requires-clause-room : goal.all_left-requires-clause-room
@@ -44,5 +44,5 @@ returns-clause-left g c = λ k x n at there.
     let e = both_back _ c.in_ok-tasks.tasks.items c.into_done.result.items
     (both_kept _ c.in_ok-tasks.tasks.items (ap (λ v. v.items) c.into_done.ensures) c.in_ok-done.ensures.ran) k d.0 d.1 in
     let new = c.in_ok-tasks.ensures.each k e.0 e.1 in
-    calls_so g.N.Native.Kept c.args.caps.now (cpu_at k) n e.0.native d.0.native x.native e.0.caller d.0.caller _ _
+    calls_so g.N.Native.Kept c.args.caps.now (cpu_at k) n e.0.native d.0.native x.native e.0.caller.value d.0.caller.value _ _
     (let same : e.0.native ≡ n = cc (new.1, there) in same) d.2.2 new.0 e.2 d.2.0

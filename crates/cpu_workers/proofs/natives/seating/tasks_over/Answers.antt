@@ -1,4 +1,5 @@
-use Rattle.std.proofs.Common.{◌≡◌, length, ap, sym, ◌∙◌, arith}
+use Rattle.std.{proofs.Common.{◌≡◌, Some, length, ap, sym, ◌∙◌, subst, arith}, specs.Prelude.slice_get}
+use Rattle.{layer_traits.specs.Threads.OnePlace.cpu_at, cpu_workers.specs.{Callers.CallerView, Natives.IsNewCaller}}
 use Rattle.cpu_workers.proofs.Filling.{numbered_one, numbered_room, some_left, taken_at, taken_one, is_below}
 use Rattle.cpu_workers.proofs.natives.seating.tasks_over.Goals as goal
 
@@ -40,14 +41,17 @@ loop-number-preserved g c =
     let here = taken_at machines n inv.machines_left below c.remove-machine.result c.remove-machine.ensures.value in
     let there = taken_at natives n inv.natives_left below_too c.remove-native.result c.remove-native.ensures.value in
     let caps = (c.requires.unused n c.remove-machine.result here).caps in
+    let fresh : IsNewCaller c.args.caps.now (cpu_at n) c.new-caller.result × ((m : g.row.I-Machine.Denot) → slice_get machines n ≡ Some m
+    → c.new-caller.result.site ≡ g.I.CallLayer.site m) = (
+      record { cpu_is = e.cpu; thread_is = ap (λ t. t.0) e.thread; caps_are = e.caps ∙ caps; fresh = e.calls },
+      λ m at. let same : c.remove-machine.result ≡ m = cc (here, at) in e.site ∙ ap (λ x. g.I.CallLayer.site x) same,
+    ) in
+    let boxed = subst (λ (v : CallerView). IsNewCaller c.args.caps.now (cpu_at n) v × ((m : g.row.I-Machine.Denot) → slice_get machines n ≡ Some m
+    → v.site ≡ g.I.CallLayer.site m)) (sym c.in_ok-caller.ensures.ok) fresh in
     record {
       machines_left = taken_one machines n inv.machines_left below c.remove-machine.ensures.items;
       natives_left = taken_one natives n inv.natives_left below_too c.remove-native.ensures.items;
-      tasks = numbered_one inv.tasks c.push_reserved.ensures.items c.push_reserved.ensures.capacity (
-        record { cpu_is = e.cpu; thread_is = ap (λ t. t.0) e.thread; caps_are = e.caps ∙ caps; fresh = e.calls },
-        there,
-        λ m at. let same : c.remove-machine.result ≡ m = cc (here, at) in e.site ∙ ap (λ x. g.I.CallLayer.site x) same,
-      );
+      tasks = numbered_one inv.tasks c.push_reserved.ensures.items c.push_reserved.ensures.capacity (boxed.0, there, boxed.1);
     }
 
 pub returns-clause-count : goal.returns-clause-count
