@@ -1,5 +1,5 @@
 #!/usr/bin/env python3
-"""Lays out the imports of definitions: each path is written once, in lines of at most 160 columns.
+"""Lays out the imports of definitions: each path is written once, in lines of at most 160 columns, in specs at most 100.
 
     tools/imports.py [--apply] [CRATE..]
 
@@ -14,7 +14,7 @@ import re
 import subprocess
 
 ROOT = os.path.dirname(os.path.dirname(os.path.realpath(__file__)))
-WIDTH = 160
+WIDTH, WIDTH_OF_SPECS = 160, 100
 LINE = re.compile(r"\s*(unfoldable )?(pub )?(ghost )?use ")
 # The indent, the word, and what an import of definitions names, and how its line ends.
 NAMES = re.compile(r"(\s*)((?:unfoldable )?(?:pub )?(?:ghost )?use) (Rattle\.(?:[^{}]*\.)?\{.+\})(;?)$")
@@ -84,16 +84,16 @@ def parted(names):
     return [*alone, [it for it in names if all(it not in others for others in alone)]]
 
 
-def lines_of(kind, names):
+def lines_of(kind, names, width):
     """Returns the lines that import these, each as long as it may be."""
-    return [line for part in parted(names) for line in lines_of_part(kind, part)]
+    return [line for part in parted(names) for line in lines_of_part(kind, part, width)]
 
 
-def lines_of_part(kind, names):
+def lines_of_part(kind, names, width):
     """Returns the lines that import these together, each as long as it may be."""
     found, held = [], []
     for it in names:
-        if held and len(line_of(kind, [*held, it])) > WIDTH:
+        if held and len(line_of(kind, [*held, it])) > width:
             found.append(line_of(kind, held))
             held = []
         held.append(it)
@@ -108,26 +108,26 @@ def together(names, at=0):
     return [it for step, inside in groups.items() for it in (together(inside, at + 1) if step else inside)]
 
 
-def written(run):
+def written(run, width):
     """Returns the lines of imports that stand together, laid out; those of whole modules stay as they are."""
     kinds = {}
     for line in run:
         found = NAMES.match(line)
         kind = (found[1], found[2], found[4]) if found else line
         kinds.setdefault(kind, []).extend(names_of(found[3]) if found else [])
-    new = [it for kind, names in kinds.items() for it in (lines_of(kind, together(names)) if names else [kind])]
+    new = [it for kind, names in kinds.items() for it in (lines_of(kind, together(names), width) if names else [kind])]
     mixed = any(it.lstrip().startswith(("use Rattle.{", "ghost use Rattle.{", "pub use Rattle.{")) and "◌" in it for it in run)
-    return new if mixed or len(new) < len(run) else run
+    return new if mixed or len(new) < len(run) or any(len(it) > width for it in run) else run
 
 
-def text_of(text, is_code):
+def text_of(text, is_code, width=WIDTH):
     """Returns the text of a file with its imports laid out."""
     found, run = [], []
     for line in [*text.split("\n"), None]:
         if line is not None and (NAMES.match(line) or (run and not is_code and LINE.match(line))):
             run.append(line)
         else:
-            found += [*written(run), line]
+            found += [*written(run, width), line]
             run = []
     return "\n".join(found[:-1])
 
@@ -142,7 +142,7 @@ def main():
         if given.crates and file.split("/")[1] not in given.crates or not os.path.exists(f"{ROOT}/{file}"):
             continue
         text = open(f"{ROOT}/{file}", encoding="utf-8").read()
-        new = text_of(text, file.endswith(".rt"))
+        new = text_of(text, file.endswith(".rt"), WIDTH_OF_SPECS if "/specs/" in file else WIDTH)
         before += sum(bool(LINE.match(it)) for it in text.split("\n"))
         after += sum(bool(LINE.match(it)) for it in new.split("\n"))
         if new != text and given.apply:

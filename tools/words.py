@@ -17,13 +17,15 @@ ROOT = Path(__file__).resolve().parent.parent
 LIST = ROOT / "tools/words.txt"
 DEFINITION = re.compile(r"( *)((?:(?:unfoldable|abbrev|pub|record|data) )+)(?!(?:use|mod) )([^\s(:{]+)")
 CASE = re.compile(r" +([^\s(:{]+) :")
+# A record with some fields changed: an expression, which may begin a line.
+CHANGED = re.compile(r" +record \S+ \{(?:$| \S+ =)")
 
 
 def names_of(text):
     """Yields the names that a file defines. A `pub` that stands further in and says no more is a field's."""
     is_data = False
     for line in text.splitlines():
-        found = DEFINITION.match(line)
+        found = None if CHANGED.match(line) else DEFINITION.match(line)
         case = CASE.match(line) if is_data else None
         if found and (not found[1] or found[2] != "pub "):
             is_data = "data " in found[2]

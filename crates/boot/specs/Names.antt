@@ -1,6 +1,7 @@
 -- How a key of a plan is printed.
 use Rattle.std.specs.Prelude.{ℕ, List, ◌++◌, codes, decimal}
-use Rattle.boot.specs.declared.refusals.PlanKey.{PlanKey, TheVariants.{Cpus, Trace, Buffers, Lock, Threads, Cpu, Program}}
+use Rattle.boot.specs.declared.refusals.PlanKey.{PlanKey, TheVariants.{Cpus, Trace, Buffers, Lock}}
+use Rattle.boot.specs.declared.refusals.PlanKey.TheVariants.{Threads, Cpu, Program}
 
 -- a key's name; the name of a key in a thread's table is printed after the thread
 abbrev pub key_name : PlanKey → List ℕ

@@ -1,12 +1,21 @@
 -- What a plan says, and the first fault of a plan.
-use Rattle.std.specs.Prelude.{◌≡◌, ℕ, ◌-◌, ◌<◌, ◌≤◌, Bool, ◌&&◌, ℤ, pos, negsuc, List, [], ◌∷◌, length, codes, nat_le, map, slice_index, slice_index_or, All}
-use Rattle.std.specs.{Prelude.{IsTrue, Option, Some, None, Result, Ok, Err, if◌then◌else◌, option_and_then}, List.list_all}
-use Rattle.event_log.specs.{declared.ids.TheConstants.{CPUS, THREADS, BUFFERS, CAPACITY, TRACE}, Buffers.IsCapacity, Reading.{◌>>=◌, read_from, all_as}}
-use Rattle.toml.specs.{Data.{Data, Items, no_items, item, Members, as_integer, as_array, as_str, as_table, get_member}, Parse.parse_document}
-use Rattle.guest.specs.declared.{instructions.Instruction.Instruction, refusals.GuestError.{GuestError, TheVariants.{NoMemory as GuestNoMemory, At}}}
-use Rattle.{guest.specs.{Instructions.{IsProgram, names_below}, Language.program_in}, boot.specs.{Locks.lock_named, declared.locks.LockKind.LockKind}}
-use Rattle.boot.specs.declared.{locks.LockKind.TheVariants.Grant, refusals.PlanKey.{PlanKey, TheVariants.{Cpus, Trace, Buffers, Lock, Threads, Cpu, Program}}}
-use Rattle.boot.specs.declared.refusals.BootError.{BootError, TheVariants.{NoMemory, BadToml, MissingKey, OutOfRange, Guest}}
+use Rattle.std.specs.Prelude.{◌≡◌, ℕ, ◌-◌, ◌<◌, ◌≤◌, Bool, ◌&&◌, ℤ, pos, negsuc, List, [], ◌∷◌}
+use Rattle.std.specs.Prelude.{length, codes, nat_le, map, slice_index, slice_index_or, All, IsTrue}
+use Rattle.std.specs.Prelude.{Option, Some, None, Result, Ok, Err, if◌then◌else◌, option_and_then}
+use Rattle.std.specs.List.{list_all}
+use Rattle.event_log.specs.declared.ids.TheConstants.{CPUS, THREADS, BUFFERS, CAPACITY, TRACE}
+use Rattle.event_log.specs.{Buffers.IsCapacity, Reading.{◌>>=◌, read_from, all_as}}
+use Rattle.toml.specs.Data.{Data, Items, no_items, item, Members, as_integer, as_array, as_str}
+use Rattle.toml.specs.{Data.{as_table, get_member}, Parse.parse_document}
+use Rattle.guest.specs.declared.instructions.Instruction.{Instruction}
+use Rattle.guest.specs.declared.refusals.GuestError.{GuestError}
+use Rattle.guest.specs.declared.refusals.GuestError.TheVariants.{NoMemory as GuestNoMemory, At}
+use Rattle.guest.specs.{Instructions.{IsProgram, names_below}, Language.program_in}
+use Rattle.boot.specs.{Locks.lock_named, declared.locks.LockKind.{LockKind, TheVariants.Grant}}
+use Rattle.boot.specs.declared.refusals.PlanKey.{PlanKey, TheVariants.{Cpus, Trace, Buffers, Lock}}
+use Rattle.boot.specs.declared.refusals.PlanKey.TheVariants.{Threads, Cpu, Program}
+use Rattle.boot.specs.declared.refusals.BootError.{BootError, TheVariants.{NoMemory, BadToml}}
+use Rattle.boot.specs.declared.refusals.BootError.TheVariants.{MissingKey, OutOfRange, Guest}
 
 -- a thread: its home CPU and its program
 pub record Task : Type 0 where
@@ -47,7 +56,8 @@ number_within least most (negsuc n) = None
 
 -- an integer's key
 unfoldable pub number_at : PlanKey → ℕ → ℕ → Option Data → Result ℕ BootError
-number_at key least most d = wanted key (option_and_then as_integer d) >>= λ z. ranged key (number_within least most z)
+number_at key least most d =
+    wanted key (option_and_then as_integer d) >>= λ z. ranged key (number_within least most z)
 
 -- an array of items of one kind
 abbrev pub list_at : {A : Type 0} → (Data → Option A) → Option Data → Option (List A)
@@ -59,7 +69,9 @@ some_to most xs = some_if (nat_le 1 (length xs) && nat_le (length xs) most) xs
 
 -- the capacities
 unfoldable pub caps_at : Option Data → Result (List ℕ) BootError
-caps_at d = wanted Buffers (list_at as_integer d) >>= λ zs. ranged Buffers (some_to BUFFERS zs) >>= λ zs. ranged Buffers (all_as (number_within 1 CAPACITY) zs)
+caps_at d =
+    wanted Buffers (list_at as_integer d) >>= λ zs. ranged Buffers (some_to BUFFERS zs)
+    >>= λ zs. ranged Buffers (all_as (number_within 1 CAPACITY) zs)
 
 -- the lock: one with grant words, where the key is absent
 unfoldable pub lock_at : Option Data → Result LockKind BootError
@@ -68,7 +80,8 @@ lock_at (Some d) = wanted Lock (as_str d) >>= λ name. ranged Lock (lock_named n
 
 -- the threads' tables
 unfoldable pub tables_at : Option Data → Result (List Members) BootError
-tables_at d = wanted Threads (list_at as_table d) >>= λ tables. ranged Threads (some_to THREADS tables)
+tables_at d =
+    wanted Threads (list_at as_table d) >>= λ tables. ranged Threads (some_to THREADS tables)
 
 -- a program's fault, as a fault of the plan
 abbrev pub fault_of_thread : {A : Type 0} → ℕ → Result A GuestError → Result A BootError
@@ -81,7 +94,8 @@ unfoldable pub program_at : ℕ → ℕ → Option Data → Result (List Instruc
 program_at buffers t d =
     wanted (Program (record { 0 = t })) (list_at as_str d)
     >>= λ lines. fault_of_thread t (program_in lines)
-    >>= λ program. ranged (Program (record { 0 = t })) (some_if (list_all (names_below buffers) program) program)
+    >>= λ program. ranged (Program (record { 0 = t }))
+    (some_if (list_all (names_below buffers) program) program)
 
 -- a thread's table
 unfoldable pub task_at : ℕ → ℕ → ℕ → Members → Result Task BootError

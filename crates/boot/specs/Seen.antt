@@ -1,5 +1,6 @@
 -- A boot's threads, as its plan lists them.
-use Rattle.{std.specs.Prelude.{List, map}, boot.specs.{declared.tasks.Task.Task as TaskInside, Plan.Task}}
+use Rattle.{std.specs.Prelude.{List, map}, boot.specs.declared.tasks.Task.Task as TaskInside}
+use Rattle.boot.specs.Plan.{Task}
 
 -- a thread
 abbrev pub plan_task_of : TaskInside → Task

@@ -35,7 +35,8 @@ pub fn number_at(
     least: u64,
     most: u64,
 ) -> Result<u64, BootError>
-    ensures number { result ≡ number_at key least most (get_member name.now (table_view table.now)) }
+    ensures number { result
+        ≡ number_at key least most (get_member name.now (table_view table.now)) }
     ensures within { IfOk result (λ number. (least ≤ number) × (number ≤ most)) }
 {
     let Some(value) = value_at(table, name) else {
@@ -53,7 +54,8 @@ pub fn number_at(
 /// Returns the capacities that some integers are, or `None` if an integer is out of range.
 fn caps_of(integers: &[i64]) -> Option<ArrayVec<u8, BUFFERS>>
     requires { length integers.now ≤ BUFFERS }
-    ensures caps { option_map (λ caps. caps.items) result ≡ all_as (number_within 1 CAPACITY) integers.now }
+    ensures caps { option_map (λ caps. caps.items) result
+        ≡ all_as (number_within 1 CAPACITY) integers.now }
     ensures len { IfSome result (λ caps. length caps.items ≡ length integers.now) }
     ensures within { IfSome result (λ caps. All IsCapacity caps.items) }
 {
@@ -73,7 +75,8 @@ fn caps_of(integers: &[i64]) -> Option<ArrayVec<u8, BUFFERS>>
 /// made.
 #[tactic(auto, unfolding(crate::specs::Plan::caps_at))]
 pub fn caps_at(alloc: Global, table: &Table) -> Result<ArrayVec<u8, BUFFERS>, BootError>
-    ensures caps { Gives (λ caps. caps.items) result (caps_at (get_member (codes "buffers") (table_view table.now))) }
+    ensures caps { Gives (λ caps. caps.items) result
+        (caps_at (get_member (codes "buffers") (table_view table.now))) }
     ensures within { IfOk result (λ caps. AreCaps caps.items) }
 {
     let Some(array) = array_at(table, "buffers") else {

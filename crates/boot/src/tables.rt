@@ -10,14 +10,16 @@ use toml::{Table, Value};
 
 /// Returns the value of a key of a table.
 pub fn value_at<'a>(table: &'a Table, name: &str) -> Option<&'a Value>
-    ensures { option_map (λ value. view value.now) result ≡ get_member name.now (table_view table.now) }
+    ensures { option_map (λ value. view value.now) result
+        ≡ get_member name.now (table_view table.now) }
 {
     table.get(name)
 }
 
 /// Returns the array at a key of a table.
 pub fn array_at<'a>(table: &'a Table, name: &str) -> Option<&'a Vec<Value>>
-    ensures { option_map (λ array. array_view array.now) result ≡ option_and_then as_array (get_member name.now (table_view table.now)) }
+    ensures { option_map (λ array. array_view array.now) result
+        ≡ option_and_then as_array (get_member name.now (table_view table.now)) }
 {
     match value_at(table, name) {
         Some(value) => value.as_array(),
@@ -29,7 +31,8 @@ pub fn array_at<'a>(table: &'a Table, name: &str) -> Option<&'a Vec<Value>>
 ///
 /// Errors: `AllocError` if an allocation failed. Then nothing was made.
 pub fn integers(alloc: Global, values: &Vec<Value>) -> Result<Option<Vec<i64>>, AllocError>
-    ensures { IfOk result (λ seen. option_map (λ found. found.items) seen ≡ all_as as_integer (data_in (array_view values.now))) }
+    ensures { IfOk result (λ seen. option_map (λ found. found.items) seen
+        ≡ all_as as_integer (data_in (array_view values.now))) }
 {
     let mut found = Vec::new(alloc);
     for value in values {
@@ -45,7 +48,8 @@ pub fn integers(alloc: Global, values: &Vec<Value>) -> Result<Option<Vec<i64>>, 
 ///
 /// Errors: `AllocError` if an allocation failed. Then nothing was made.
 pub fn texts<'a>(alloc: Global, values: &'a Vec<Value>) -> Result<Option<Vec<&'a str>>, AllocError>
-    ensures { IfOk result (λ seen. option_map (λ found. map (λ text. text.now) found.items) seen ≡ all_as as_str (data_in (array_view values.now))) }
+    ensures { IfOk result (λ seen. option_map (λ found. map (λ text. text.now) found.items) seen
+        ≡ all_as as_str (data_in (array_view values.now))) }
 {
     let mut found = Vec::new(alloc);
     for value in values {
@@ -64,7 +68,8 @@ pub fn tables<'a>(
     alloc: Global,
     values: &'a Vec<Value>,
 ) -> Result<Option<Vec<&'a Table>>, AllocError>
-    ensures { IfOk result (λ seen. option_map (λ found. map (λ table. table_view table.now) found.items) seen
+    ensures { IfOk result (λ seen. option_map
+        (λ found. map (λ table. table_view table.now) found.items) seen
         ≡ all_as as_table (data_in (array_view values.now))) }
 {
     let mut found = Vec::new(alloc);

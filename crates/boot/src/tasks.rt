@@ -28,7 +28,8 @@ fn program_at(
     thread: Tid,
     buffers: usize,
 ) -> Result<Program, BootError>
-    ensures program { Gives (λ program. program) result (program_at buffers thread.0 (get_member (codes "program") (table_view table.now))) }
+    ensures program { Gives (λ program. program) result
+        (program_at buffers thread.0 (get_member (codes "program") (table_view table.now))) }
     ensures within { IfOk result IsProgram }
     ensures known { IfOk result (All (λ i. IsTrue (names_below buffers i))) }
 {
@@ -63,7 +64,8 @@ fn task_at(
     buffers: usize,
 ) -> Result<Task, BootError>
     requires { 1 ≤ cpus }
-    ensures task { Gives plan_task_of result (task_at cpus buffers thread.0 (table_view table.now)) }
+    ensures task { Gives plan_task_of result
+        (task_at cpus buffers thread.0 (table_view table.now)) }
     ensures within { IfOk result (λ task. IsTask cpus buffers (plan_task_of task)) }
 {
     let home = number_at(table, "cpu", PlanKey::Cpu(thread), 0, u64::from(cpus) - 1)?;
@@ -117,7 +119,8 @@ pub fn tasks_of(
 ) -> Result<Vec<Task>, BootError>
     requires cpus { 1 ≤ cpus }
     requires most { length tables.now ≤ THREADS }
-    ensures tasks { Gives (λ tasks. tasks_of tasks.items) result (read_from (task_at cpus buffers) 0 (map (λ table. table_view table.now) tables.now)) }
+    ensures tasks { Gives (λ tasks. tasks_of tasks.items) result
+        (read_from (task_at cpus buffers) 0 (map (λ table. table_view table.now) tables.now)) }
     ensures len { IfOk result (λ tasks. length tasks.items ≡ length tables.now) }
     ensures within { IfOk result (λ tasks. All (IsTask cpus buffers) (tasks_of tasks.items)) }
 {

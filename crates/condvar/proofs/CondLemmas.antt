@@ -1,18 +1,16 @@
 -- What a poll of a lock with conditions leaves, and why a thread that was woken from a wait is in
 -- no wait list.
-use Rattle.std.proofs.Common.{arith}
-use Rattle.std.proofs.Common.{◌≡◌, ◌<◌, ◌≤◌, Bool, true, false, ◌&&◌, List, length, slice_set, Option, Some, None, is_some, if◌then◌else◌, ap, ◌∙◌}
-use Rattle.std.proofs.{Common.arith, lemmas.Option.slice_get_within}
+use Rattle.std.proofs.Common.{arith, ◌≡◌, ◌<◌, ◌≤◌, Bool, true, false, ◌&&◌, List, length, slice_set, Option, Some, None, is_some, if◌then◌else◌, ap, ◌∙◌}
+use Rattle.std.proofs.lemmas.Option.{slice_get_within}
 use Rattle.event_log.specs.{declared.ids.{BufId.BufId, CpuId.CpuId, LockId.{LockId, TheVariants.Buffer}, Tid.Tid, TheConstants.THREADS}, Actions.Action}
-use Rattle.layer_traits.specs.declared.{conditions.{CvOut.CvOut}, moves.WaitList.WaitList, payloads.Parcel.Parcel}
-use Rattle.layer_traits.specs.declared.{queue_edits.{QueueBlock.QueueBlock, QueueEdit.QueueEdit, QueueAnswer.QueueAnswer}, queues.QueueEvent.QueueEvent}
-use Rattle.layer_traits.specs.declared.{scheds.SchedCall.SchedCall, sleeps.Outcome.Outcome, locked.{QOut.QOut}}
-use Rattle.layer_traits.specs.{declared.locked.{Side.Side}, Layers.{Conditions.{MonitorRules, CvCall, cv_rules}, CvLaw.CvPolled}}
-use Rattle.layer_traits.specs.Layers.CvLaw.{MayCallCond, MayWait, Waiting, cv_plan_for, left_waiting, waited, waiting_with}
-use Rattle.layer_traits.specs.Layers.{QLocking.{LockState, lock_after, lock_caller, wait_list_in}, QLockLaw.{Locking, LockPolled, LocksAgree, lock_kernel}}
-use Rattle.layer_traits.specs.{Layers.{QLockLaw.{lock_plan, slept_for}, Queues.{Kernel, buffer_sections, moves_in}}, Threads.ListsAgree.is_at}
-use Rattle.layer_traits.specs.{Threads.{MoveRules.MoveRules, Places.{AreMoves, Stands, Threads, one_if, wait_channel_of}}, Blocks.Payloads.{cv_meant, cv_told}}
-use Rattle.layer_traits.specs.{Blocks.{Payloads.{lock_meant, lock_told, outcome_told, told_by}, QueueBlocks.{homes_in, inner}}, Polling.Plans.{Follows, Table}}
+use Rattle.layer_traits.specs.declared.{conditions.CvOut.CvOut, moves.WaitList.WaitList, payloads.Parcel.Parcel, queue_edits.QueueBlock.QueueBlock}
+use Rattle.layer_traits.specs.declared.{queue_edits.{QueueEdit.QueueEdit, QueueAnswer.QueueAnswer}, queues.QueueEvent.QueueEvent, scheds.SchedCall.SchedCall}
+use Rattle.layer_traits.specs.{declared.{sleeps.Outcome.Outcome, locked.{QOut.QOut, Side.Side}}, Layers.Conditions.{MonitorRules, CvCall, cv_rules}}
+use Rattle.layer_traits.specs.Layers.{CvLaw.{CvPolled, MayCallCond, MayWait, Waiting, cv_plan_for, left_waiting, waited, waiting_with}, QLocking.LockState}
+use Rattle.layer_traits.specs.Layers.{QLocking.{lock_after, lock_caller, wait_list_in}, QLockLaw.{Locking, LockPolled, LocksAgree, lock_kernel, lock_plan}}
+use Rattle.layer_traits.specs.{Layers.{QLockLaw.slept_for, Queues.{Kernel, buffer_sections, moves_in}}, Threads.{ListsAgree.is_at, MoveRules.MoveRules}}
+use Rattle.layer_traits.specs.{Threads.Places.{AreMoves, Stands, Threads, one_if, wait_channel_of}, Blocks.Payloads.{cv_meant, cv_told, lock_meant, lock_told}}
+use Rattle.layer_traits.specs.{Blocks.{Payloads.{outcome_told, told_by}, QueueBlocks.{homes_in, inner}}, Polling.Plans.{Follows, Table}}
 use Rattle.{layer_traits.proofs.{CallLemmas.follows_raised, CountLemmas.not_counted, PlaceLemmas.current_at}, thread_blocks.specs.Queues.is_in}
 use Rattle.condvar.specs.Waiting.{calls_wait, is_wait, side_in}
 

@@ -1,8 +1,12 @@
 -- Which call waits, on which side, and which result says that its caller waits.
-use Rattle.{std.specs.Prelude.{Bool, true, false, List, Option, Some, None}, layer_traits.specs.declared.conditions.CvLeave.TheVariants.{Leave, Wait}}
-use Rattle.layer_traits.specs.declared.{conditions.CvOut.CvOut, locked.{QEdit.TheVariants.{Acquire, Inside, Release}, QOut.{QOut, TheVariants.Acquired}}}
-use Rattle.layer_traits.specs.declared.{locked.{QOut.TheVariants.{Queued, Did, Released}, Side.{Side, TheVariants.Receivers}}, sleeps.Outcome.Outcome}
-use Rattle.{layer_traits.specs.Layers.{Conditions.CvCall, CvLaw.Waiting, QLockLaw.Locking}, event_log.specs.declared.ids.BufId.BufId}
+use Rattle.std.specs.Prelude.{Bool, true, false, List, Option, Some, None}
+use Rattle.layer_traits.specs.declared.conditions.{CvLeave.TheVariants.{Leave, Wait}, CvOut.CvOut}
+use Rattle.layer_traits.specs.declared.locked.QEdit.TheVariants.{Acquire, Inside, Release}
+use Rattle.layer_traits.specs.declared.locked.QOut.{QOut, TheVariants.{Acquired, Queued, Did}}
+use Rattle.layer_traits.specs.declared.locked.{QOut.TheVariants.Released, Side.Side}
+use Rattle.layer_traits.specs.declared.{locked.Side.TheVariants.Receivers, sleeps.Outcome.Outcome}
+use Rattle.layer_traits.specs.Layers.{Conditions.CvCall, CvLaw.Waiting, QLockLaw.Locking}
+use Rattle.event_log.specs.declared.ids.BufId.{BufId}
 use Rattle.layer_traits.specs.declared.conditions.CvOut.TheVariants as answer
 
 -- the side of a wait; Receivers of a call that is no wait

@@ -10,7 +10,8 @@ use layer_traits::{CvEdit, CvLeave, Guarded, Parcel, QEdit, Side};
 /// The thread that calls, with this parcel beside the call: it depends on no parcel.
 #[inline(always)]
 pub fn caller_of<G: Guarded>(call: &QEdit<CvEdit<G::Handed>, CvLeave>, parcel: &Parcel) -> Tid
-    ensures { result ≡ lock_caller (cv_rules G.monitor_rules) (lock_meant (cv_meant G.meant) call.now parcel.now) }
+    ensures { result ≡ lock_caller (cv_rules G.monitor_rules)
+        (lock_meant (cv_meant G.meant) call.now parcel.now) }
 {
     let _ = parcel;
     match call {

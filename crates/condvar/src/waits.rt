@@ -31,7 +31,8 @@ impl Waits {
     pub fn wake(&mut self, t: Tid) -> bool
         requires { t.0 < THREADS }
         ensures was { result ≡ is_some (slept_for self.old.buffers t) }
-        ensures now { self.new.buffers ≡ (if result then slice_set self.old.buffers t.0 None else self.old.buffers) }
+        ensures now { self.new.buffers
+            ≡ (if result then slice_set self.old.buffers t.0 None else self.old.buffers) }
     {
         let at = usize::from(t.0);
         if self.buffers[at].is_none() {
@@ -49,7 +50,8 @@ impl Waits {
     pub fn ends_wait<H>(&mut self, call: &QEdit<CvEdit<H>, CvLeave>, t: Tid) -> bool
         requires { t.0 < THREADS }
         ensures was { result ≡ (calls_wait call.now && is_some (slept_for self.old.buffers t)) }
-        ensures now { self.new.buffers ≡ (if result then slice_set self.old.buffers t.0 None else self.old.buffers) }
+        ensures now { self.new.buffers
+            ≡ (if result then slice_set self.old.buffers t.0 None else self.old.buffers) }
     {
         match call {
             QEdit::Release(CvLeave::Wait(_, _)) => self.wake(t),
@@ -69,7 +71,9 @@ impl Waits {
         answer: Option<Outcome<QOut<CvOut<O>>>>,
     ) -> Option<Outcome<QOut<CvOut<O>>>>
         requires { t.0 < THREADS }
-        ensures waits { self.new.buffers ≡ (if is_wait answer then slice_set self.old.buffers t.0 (Some buffer) else self.old.buffers) }
+        ensures waits { self.new.buffers
+            ≡ (if is_wait answer then slice_set self.old.buffers t.0 (Some buffer)
+            else self.old.buffers) }
         ensures complete { result ≡ (if is_wait answer then None else answer) }
     {
         if has_waited(&answer) {

@@ -1,13 +1,18 @@
 -- CPUs and systems at boot: their guests, and that nothing has happened.
-use Rattle.std.specs.Prelude.{◌≡◌, ℕ, ◌≤◌, ◌==◌, List, [], length, map, Option, Some, None, slice_get, if◌then◌else◌}
-use Rattle.{event_log.specs.declared.{entries.Entry.Entry, ids.{CpuId.CpuId, Tid.Tid}}, layer_traits.specs.{Threads.Places.home_of, Layers.BufferLaw.Buffering}}
-use Rattle.{layer_traits.specs.Layers.BufferLaw.{UnderWay, buffering_at_start}, cpu.specs.{declared.guests.Guest.Guest, Guests.new_guest, Claims.listed}}
-use Rattle.{cpu.specs.Cpus.{NamesBelow, guest_at}, boot.specs.Plan.{BootPlan, Task}}
+use Rattle.std.specs.Prelude.{◌≡◌, ℕ, ◌≤◌, ◌==◌, List, [], length, map, Option, Some, None}
+use Rattle.std.specs.Prelude.{slice_get, if◌then◌else◌}
+use Rattle.event_log.specs.declared.{entries.Entry.Entry, ids.{CpuId.CpuId, Tid.Tid}}
+use Rattle.layer_traits.specs.{Threads.Places.home_of, Layers.BufferLaw.{Buffering, UnderWay}}
+use Rattle.layer_traits.specs.Layers.BufferLaw.{buffering_at_start}
+use Rattle.cpu.specs.{declared.guests.Guest.Guest, Guests.new_guest, Claims.listed, Cpus.NamesBelow}
+use Rattle.{cpu.specs.Cpus.guest_at, boot.specs.Plan.{BootPlan, Task}}
 
 -- A CPU's guests at boot: a place for each thread, with a new guest at the numbers of the CPU's
 -- home threads, and at no others. Each program names only the machine's buffers.
-pub record AreGuests (homes : List CpuId) (buffers : ℕ) (number : CpuId) (guests : List (Option Guest)) : Type 0 where
-  pub homed : (t : Tid) → home_of homes t ≡ Some number → (g : Guest) × (guest_at guests t.0 ≡ Some g)
+pub record AreGuests (homes : List CpuId) (buffers : ℕ) (number : CpuId)
+    (guests : List (Option Guest)) : Type 0 where
+  pub homed : (t : Tid) → home_of homes t ≡ Some number
+      → (g : Guest) × (guest_at guests t.0 ≡ Some g)
   pub only : (t : Tid) (g : Guest) → guest_at guests t.0 ≡ Some g → home_of homes t ≡ Some number
   pub fresh : (t : Tid) (g : Guest) → guest_at guests t.0 ≡ Some g → g ≡ new_guest g.program
   pub named : (t : Tid) (g : Guest) → guest_at guests t.0 ≡ Some g → NamesBelow buffers g.program
@@ -15,10 +20,13 @@ pub record AreGuests (homes : List CpuId) (buffers : ℕ) (number : CpuId) (gues
 
 -- the tables of the guests of all CPUs
 abbrev pub AreTables : List CpuId → ℕ → List (List (Option Guest)) → Type 0
-AreTables homes buffers tables = (k : ℕ) (guests : List (Option Guest)) → slice_get tables k ≡ Some guests → AreGuests homes buffers (record { 0 = k }) guests
+AreTables homes buffers tables =
+    (k : ℕ) (guests : List (Option Guest)) → slice_get tables k ≡ Some guests
+    → AreGuests homes buffers (record { 0 = k }) guests
 
 -- a CPU of this number was made with these guests and with room for so many entries
-pub record IsBooted (number : CpuId) (guests : List (Option Guest)) (most : ℕ) (its : CpuId) (table : List (Option Guest)) (trace : List Entry)
+pub record IsBooted (number : CpuId) (guests : List (Option Guest)) (most : ℕ) (its : CpuId)
+    (table : List (Option Guest)) (trace : List Entry)
     (limit capacity : ℕ) : Type 0 where
   pub number_is : its ≡ number
   pub guests_are : table ≡ guests
@@ -31,7 +39,8 @@ pub record IsBootedAs {P M : Type 0} (Fits : P → M → Type 0) (IsFresh : M �
     (count : M → ℕ) (buffers : ℕ) (homes : List CpuId)
     (k : ℕ) (guests : List (Option Guest)) (most : ℕ) (part : P) (cpu : CpuId) (own : Buffering)
     (under_way : Option UnderWay)
-    (its : CpuId) (table : List (Option Guest)) (trace : List Entry) (limit capacity : ℕ) : Type 0 where
+    (its : CpuId) (table : List (Option Guest)) (trace : List Entry) (limit capacity : ℕ) : Type
+    0 where
   pub booted : IsBooted (record { 0 = k }) guests most its table trace limit capacity
   pub cpu_is : cpu ≡ record { 0 = k }
   pub nothing_done : under_way ≡ None

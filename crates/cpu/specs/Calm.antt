@@ -1,8 +1,11 @@
 -- When a CPU of a system is calm, when a system is quiet (quiescent), and that no trace is longer
 -- than its room.
-use Rattle.std.specs.Prelude.{◌≡◌, ℕ, ◌<◌, ◌≤◌, Bool, true, false, not, ◌&&◌, List, [], ◌∷◌, length, Option, Some, None, is_some, slice_get}
-use Rattle.{event_log.specs.declared.ids.{CpuId.CpuId, Tid.Tid}, layer_traits.specs.declared.steps.Reason.{Reason, TheVariants.{AllEnded, TraceFull}}}
-use Rattle.{layer_traits.specs.{declared.steps.Reason.TheVariants.StepsUsed, Threads.Places.{Threads, pending_by}}, cpu.specs.Claims.{CpuShown, Shown}}
+use Rattle.std.specs.Prelude.{◌≡◌, ℕ, ◌<◌, ◌≤◌, Bool, true, false, not, ◌&&◌, List, [], ◌∷◌, length}
+use Rattle.std.specs.Prelude.{Option, Some, None, is_some, slice_get}
+use Rattle.event_log.specs.declared.ids.{CpuId.CpuId, Tid.Tid}
+use Rattle.layer_traits.specs.declared.steps.Reason.{Reason, TheVariants.{AllEnded, TraceFull}}
+use Rattle.layer_traits.specs.{declared.steps.Reason.TheVariants.StepsUsed, Threads.Places.Threads}
+use Rattle.{layer_traits.specs.Threads.Places.pending_by, cpu.specs.Claims.{CpuShown, Shown}}
 use Rattle.cpu.specs.Systems.{own_reason}
 
 -- whether a list is empty
@@ -12,7 +15,8 @@ is_nobody (t ∷ rest) = false
 
 -- whether a CPU has no section under way, no running or ready thread, and an empty hand
 abbrev pub rests : Bool → Threads → Bool
-rests busy own = not busy && (not (is_some own.current) && (not (is_some own.hand) && is_nobody own.ready))
+rests busy own =
+    not busy && (not (is_some own.current) && (not (is_some own.hand) && is_nobody own.ready))
 
 -- A halted CPU is calm if each of its threads has ended; one whose trace is full has a thread that
 -- would call. Any other CPU is calm if it rests.

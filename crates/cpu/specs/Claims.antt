@@ -1,14 +1,22 @@
 -- What a system shows, and the invariants that hold after every list of steps.
-use Rattle.std.specs.Prelude.{◌≡◌, ◌⊎◌, ℕ, zero, suc, ◌+◌, ◌<◌, ◌≤◌, Bool, true, false, List, [], ◌∷◌, map, length, reverse, Option, Some, None, slice_get}
+use Rattle.std.specs.Prelude.{◌≡◌, ◌⊎◌, ℕ, zero, suc, ◌+◌, ◌<◌, ◌≤◌, Bool, true, false, List, []}
+use Rattle.std.specs.Prelude.{◌∷◌, map, length, reverse, Option, Some, None, slice_get}
 use Rattle.std.specs.{Prelude.slice_index_or, List.AllByRecursion}
-use Rattle.event_log.specs.{declared.{entries.Entry.Entry, ids.{BufId.BufId, CpuId.CpuId, Tid.Tid}}, Actions.Action, Messages.Message, Runs.{IsRun, is_closed}}
-use Rattle.{event_log.specs.{Streams.IsFirstInFirstOut, Traces.IsInterleaving}, guest.specs.declared.instructions.Instruction.Instruction}
-use Rattle.{guest.specs.Calls.{AreProgramsCalls, HasEnded}, layer_traits.specs.declared.calls.{Call.Call, Effect.Effect, Place.Place}}
-use Rattle.layer_traits.specs.{declared.moves.WaitList.{WaitList, TheVariants.{Sleepers, Receivers, Senders}}, Blocks.BufferEffects.contents_of}
-use Rattle.layer_traits.specs.{Layers.BufferLaw.Buffering, Threads.{OnePlace.{InOnePlace, total}, Places.{AreMoves, Stands, Step, Threads}}}
-use Rattle.{layer_traits.specs.{Threads.Places.{count_in, home_of, where_is}, Views.Observed.{IsOwnPlace, queue_place}}, thread_blocks.specs.Queues.is_in}
-use Rattle.cpu.specs.{declared.guests.Guest.Guest, Guests.{HasComeIn, is_ended}, Table.{Blocks.Name, Setups.Private}, Tables.private, Tower.Composed.named}
-use Rattle.cpu.specs.{Tower.Views.TowerName, Cpus.{IsOfHome, guest_at, of_thread, programs_of}}
+use Rattle.event_log.specs.declared.{entries.Entry.Entry, ids.{BufId.BufId, CpuId.CpuId, Tid.Tid}}
+use Rattle.event_log.specs.{Actions.Action, Messages.Message, Runs.{IsRun, is_closed}}
+use Rattle.event_log.specs.{Streams.IsFirstInFirstOut, Traces.IsInterleaving}
+use Rattle.guest.specs.{declared.instructions.Instruction.Instruction, Calls.AreProgramsCalls}
+use Rattle.{guest.specs.Calls.HasEnded, layer_traits.specs.declared.calls.Call.Call}
+use Rattle.layer_traits.specs.declared.{calls.{Effect.Effect, Place.Place}, moves.WaitList.WaitList}
+use Rattle.layer_traits.specs.declared.moves.WaitList.TheVariants.{Sleepers, Receivers, Senders}
+use Rattle.layer_traits.specs.{Blocks.BufferEffects.contents_of, Layers.BufferLaw.Buffering}
+use Rattle.layer_traits.specs.Threads.{OnePlace.{InOnePlace, total}, Places.{AreMoves, Stands}}
+use Rattle.layer_traits.specs.Threads.Places.{Step, Threads, count_in, home_of, where_is}
+use Rattle.layer_traits.specs.Views.Observed.{IsOwnPlace, queue_place}
+use Rattle.{thread_blocks.specs.Queues.is_in, cpu.specs.declared.guests.Guest.Guest}
+use Rattle.cpu.specs.{Guests.{HasComeIn, is_ended}, Table.{Blocks.Name, Setups.Private}}
+use Rattle.cpu.specs.{Tables.private, Tower.{Composed.named, Views.TowerName}, Cpus.IsOfHome}
+use Rattle.cpu.specs.Cpus.{guest_at, of_thread, programs_of}
 
 -- the threads that sleep at a buffer: for its lock, for a message, for room
 pub record Waiters : Type 0 where
@@ -58,7 +66,12 @@ buffer_at b = record { 0 = b }
 
 -- the threads that sleep at a buffer, from its wait lists
 abbrev pub waiters_by : (BufId → WaitList → List Tid) → ℕ → Waiters
-waiters_by lines b = record { sleepers = lines (buffer_at b) Sleepers; receivers = lines (buffer_at b) Receivers; senders = lines (buffer_at b) Senders }
+waiters_by lines b =
+    record {
+      sleepers = lines (buffer_at b) Sleepers;
+      receivers = lines (buffer_at b) Receivers;
+      senders = lines (buffer_at b) Senders;
+    }
 
 abbrev pub cpu_shown : Threads → List (Option Guest) → List Entry → ℕ → Bool → Buffering → CpuShown
 cpu_shown own guests trace limit busy part = record {
@@ -71,7 +84,8 @@ cpu_shown own guests trace limit busy part = record {
 }
 
 -- what a machine shows with its CPUs
-abbrev pub shown_of : List ℕ → List CpuId → List Entry → (BufId → WaitList → List Tid) → (BufId → Option Tid) → List Step → List (Action TowerName)
+abbrev pub shown_of : List ℕ → List CpuId → List Entry → (BufId → WaitList → List Tid)
+    → (BufId → Option Tid) → List Step → List (Action TowerName)
     → List CpuShown → ℕ → ℕ → Shown
 shown_of caps homes seen lines owner moves acts cpus room taken = record {
   order = reverse seen;
@@ -114,17 +128,22 @@ pub record HasOneOrder (s : Shown) : Type 0 where
 pub record Keeps (g : Guest) (told_ended : Bool) (entries : List Entry) : Type 0 where
   pub calls : AreProgramsCalls g.program entries
   pub ends : is_ended g.stage ≡ true → HasEnded g.program g.thread
-  pub stands : (begun : Option Call) × (effect : Option Effect) × HasComeIn g.stage g.program g.thread (reverse entries) begun effect
+  pub stands : (begun : Option Call) × (effect : Option Effect)
+      × HasComeIn g.stage g.program g.thread (reverse entries) begun effect
   pub over : told_ended ≡ true → is_ended g.stage ≡ true
 
 -- each thread follows its program
 abbrev pub FollowPrograms : Shown → Type 0
-FollowPrograms s = (c : ℕ) (p : CpuShown) (t : Tid) (g : Guest) → slice_get s.cpus c ≡ Some p → guest_at p.guests t.0 ≡ Some g
+FollowPrograms s =
+    (c : ℕ) (p : CpuShown) (t : Tid) (g : Guest) → slice_get s.cpus c ≡ Some p
+    → guest_at p.guests t.0 ≡ Some g
     → Keeps g (is_in t p.own.ended) (of_thread t.0 p.trace)
 
 -- each entry in a CPU's trace is of that CPU, and of a thread whose home CPU it is
 abbrev pub StayHome : Shown → Type 0
-StayHome s = (c : ℕ) (p : CpuShown) → slice_get s.cpus c ≡ Some p → AllByRecursion (IsOfHome s.homes (record { 0 = c })) p.trace
+StayHome s =
+    (c : ℕ) (p : CpuShown) → slice_get s.cpus c ≡ Some p
+    → AllByRecursion (IsOfHome s.homes (record { 0 = c })) p.trace
 
 -- What holds at each moment (state) of a run: the calls so far have one order, and each thread's
 -- entries lead to its state. Therefore each call that has returned is in the order, and of each
@@ -160,11 +179,15 @@ waiters_at s b = slice_index_or s.waiters b no_waiters
 -- CPU's hand, in one pending queue, asleep in one wait list, or has ended. A number that is no
 -- thread's is in no place.
 abbrev pub StandsOnce : Shown → Type 0
-StandsOnce s = (t : Tid) → InOnePlace s.homes (length s.cpus) s.moves (own_at s) (λ u. total (λ b. in_waiters u (waiters_at s b)) (length s.waiters)) t
+StandsOnce s =
+    (t : Tid) → InOnePlace s.homes (length s.cpus) s.moves (own_at s)
+    (λ u. total (λ b. in_waiters u (waiters_at s b)) (length s.waiters)) t
 
 -- a thread's place: one CPU's scheduling state gives it, or the moves place the thread in a queue
 abbrev pub IsPlaceOf : Shown → Tid → Place → Type 0
-IsPlaceOf s t place = ((c : ℕ) × (p : CpuShown) × (slice_get s.cpus c ≡ Some p) × IsOwnPlace (record { 0 = c }) p.own t place)
+IsPlaceOf s t place =
+    ((c : ℕ) × (p : CpuShown) × (slice_get s.cpus c ≡ Some p)
+    × IsOwnPlace (record { 0 = c }) p.own t place)
     ⊎ (queue_place (where_is s.homes s.moves t) ≡ Some place)
 
 -- Each CPU's scheduling state agrees with the moves of threads. Each move may follow those before
@@ -172,5 +195,6 @@ IsPlaceOf s t place = ((c : ℕ) × (p : CpuShown) × (slice_get s.cpus c ≡ So
 -- CPUs.
 pub record MovesAgree (s : Shown) : Type 0 where
   pub lawful : AreMoves s.homes s.moves
-  pub stands : (k : ℕ) (p : CpuShown) → slice_get s.cpus k ≡ Some p → Stands s.homes (record { 0 = k }) s.moves p.own
+  pub stands : (k : ℕ) (p : CpuShown) → slice_get s.cpus k ≡ Some p
+      → Stands s.homes (record { 0 = k }) s.moves p.own
   pub within : (t : Tid) (home : CpuId) → home_of s.homes t ≡ Some home → home.0 < length s.cpus

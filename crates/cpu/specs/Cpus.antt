@@ -1,16 +1,27 @@
 -- One CPU over a layer of message calls: what it does next, why it is halted, and its invariant.
 -- Lists of entries are newest first; a trace is oldest first.
-use Rattle.std.specs.Prelude.{◌≡◌, ℕ, ◌+◌, ◌≤◌, ◌==◌, Bool, true, false, not, ◌&&◌, List, [], ◌∷◌, ◌++◌, length, map, filter, count_by, reverse, Option, Some}
-use Rattle.std.specs.{Prelude.{None, is_some, option_map, slice_index_or, slice_set, if◌then◌else◌}, List.{AllByRecursion, list_all}}
-use Rattle.event_log.specs.{declared.{entries.Entry.Entry, ids.{CpuId.CpuId, Tid.Tid, TheConstants.THREADS}}, History.AreForeign, Actions.Action}
-use Rattle.{event_log.specs.Actions.cpu_of_action, thread_blocks.specs.Queues.is_in, guest.specs.declared.instructions.Instruction.Instruction}
-use Rattle.{guest.specs.Instructions.{instruction_at, names_below}, layer_traits.specs.declared.calls.{Call.Call, Effect.Effect, Reply.Reply}}
-use Rattle.layer_traits.specs.declared.steps.{Reason.{Reason, TheVariants.{AllEnded, TraceFull}}, Step.{Step, TheVariants.{Stepped, Halted}}}
-use Rattle.layer_traits.specs.declared.{call_states.CallState.CallState, passes.Pass.{Pass, TheVariants.{Switch, YieldNow, Drain, MakeReady, End}}}
-use Rattle.layer_traits.specs.{Threads.Places.{Threads, home_of}, Layers.BufferLaw.{UnderWay, Calling, Passing, buffer_of, cpu_of_entry, call_state_of}}
-use Rattle.{layer_traits.specs.Layers.BufferLaw.reply_of, cpu.specs.declared.guests.{Guest.Guest, Todo.{Todo, TheVariants.{Finish, PassOn, Compute, Calls}}}}
-use Rattle.cpu.specs.{declared.cpus.Choice.{Choice, TheVariants.{Polls, Passes, Computes}}, Guests.{HasCome, after_pass, computed, entries_of, fresh_effect}}
-use Rattle.cpu.specs.Guests.{is_begun, is_calling, is_ended, polled, todo_of}
+use Rattle.std.specs.Prelude.{◌≡◌, ℕ, ◌+◌, ◌≤◌, ◌==◌, Bool, true, false, not, ◌&&◌, List, [], ◌∷◌}
+use Rattle.std.specs.Prelude.{◌++◌, length, map, filter, count_by, reverse, Option, Some, None}
+use Rattle.std.specs.Prelude.{is_some, option_map, slice_index_or, slice_set, if◌then◌else◌}
+use Rattle.std.specs.List.{AllByRecursion, list_all}
+use Rattle.event_log.specs.declared.{entries.Entry.Entry, ids.{CpuId.CpuId, Tid.Tid}}
+use Rattle.event_log.specs.{declared.ids.TheConstants.THREADS, History.AreForeign, Actions.Action}
+use Rattle.{event_log.specs.Actions.cpu_of_action, thread_blocks.specs.Queues.is_in}
+use Rattle.guest.specs.{declared.instructions.Instruction.Instruction, Instructions.instruction_at}
+use Rattle.{guest.specs.Instructions.names_below, layer_traits.specs.declared.calls.Call.Call}
+use Rattle.layer_traits.specs.declared.{calls.{Effect.Effect, Reply.Reply}, steps.Reason.Reason}
+use Rattle.layer_traits.specs.declared.steps.{Reason.TheVariants.{AllEnded, TraceFull}, Step.Step}
+use Rattle.layer_traits.specs.declared.steps.Step.TheVariants.{Stepped, Halted}
+use Rattle.layer_traits.specs.declared.{call_states.CallState.CallState, passes.Pass.Pass}
+use Rattle.layer_traits.specs.declared.passes.Pass.TheVariants.{Switch, YieldNow, Drain, MakeReady}
+use Rattle.layer_traits.specs.{declared.passes.Pass.TheVariants.End, Threads.Places.Threads}
+use Rattle.layer_traits.specs.{Threads.Places.home_of, Layers.BufferLaw.{UnderWay, Calling}}
+use Rattle.layer_traits.specs.Layers.BufferLaw.{Passing, buffer_of, cpu_of_entry, call_state_of}
+use Rattle.{layer_traits.specs.Layers.BufferLaw.reply_of, cpu.specs.declared.guests.Guest.Guest}
+use Rattle.cpu.specs.declared.guests.Todo.{Todo, TheVariants.{Finish, PassOn, Compute, Calls}}
+use Rattle.cpu.specs.declared.cpus.Choice.{Choice, TheVariants.{Polls, Passes, Computes}}
+use Rattle.cpu.specs.Guests.{HasCome, after_pass, computed, entries_of, fresh_effect, is_begun}
+use Rattle.cpu.specs.Guests.{is_calling, is_ended, polled, todo_of}
 
 -- the guest of a thread, in a table by thread
 abbrev pub guest_at : List (Option Guest) → ℕ → Option Guest
@@ -107,7 +118,8 @@ abbrev pub cpu_halted_at : Threads → List (Option Guest) → List Entry → �
 cpu_halted_at own guests trace limit =
     if not (is_some own.hand) && list_all is_over guests
     then Some AllEnded
-    else (if begins_call (chosen own guests) guests && (length trace + begun_count guests == limit) then Some TraceFull else None)
+    else (if begins_call (chosen own guests) guests && (length trace + begun_count guests == limit)
+    then Some TraceFull else None)
 
 -- a CPU with a section under way is not halted
 abbrev pub reason_in : Bool → Option Reason → Option Reason
@@ -133,11 +145,15 @@ programs_of guests = map (λ g. option_map (λ x. x.program) g) guests
 
 -- each guest agrees with its entries and its call state
 abbrev pub AllFollow : List (Option Guest) → List Entry → List CallState → Type 0
-AllFollow guests es call_states = (t : Tid) (g : Guest) → guest_at guests t.0 ≡ Some g → HasCome g (of_thread t.0 es) (call_state_of call_states t)
+AllFollow guests es call_states =
+    (t : Tid) (g : Guest) → guest_at guests t.0 ≡ Some g
+    → HasCome g (of_thread t.0 es) (call_state_of call_states t)
 
 -- the guests of the threads that have ended are at their end
 abbrev pub AreOver : List (Option Guest) → List Tid → Type 0
-AreOver guests ended = (t : Tid) → is_in t ended ≡ true → (g : Guest) → guest_at guests t.0 ≡ Some g → is_ended g.stage ≡ true
+AreOver guests ended =
+    (t : Tid) → is_in t ended ≡ true → (g : Guest) → guest_at guests t.0 ≡ Some g
+    → is_ended g.stage ≡ true
 
 -- a program names only buffers below this number
 abbrev pub NamesBelow : ℕ → List Instruction → Type 0
@@ -149,7 +165,8 @@ pub record IsOfHome (homes : List CpuId) (number : CpuId) (e : Entry) : Type 0 w
   pub home : home_of homes e.thread ≡ Some number
 
 -- the invariant of a CPU
-pub record IsCpu (homes : List CpuId) (buffers : ℕ) (seen : List Entry) (own : Threads) (call_states : List CallState) (under_way : Option UnderWay)
+pub record IsCpu (homes : List CpuId) (buffers : ℕ) (seen : List Entry) (own : Threads)
+    (call_states : List CallState) (under_way : Option UnderWay)
     (number : CpuId)
     (guests : List (Option Guest)) (trace : List Entry) (limit capacity : ℕ) : Type 0 where
   -- its trace has each of its effects once, in their order, and each is of a home thread
@@ -159,13 +176,15 @@ pub record IsCpu (homes : List CpuId) (buffers : ℕ) (seen : List Entry) (own :
   -- machine's buffers
   pub follow : AllFollow guests (of_cpu number seen) call_states
   pub over : AreOver guests own.ended
-  pub homed : (t : Tid) → home_of homes t ≡ Some number → (g : Guest) × (guest_at guests t.0 ≡ Some g)
+  pub homed : (t : Tid) → home_of homes t ≡ Some number
+      → (g : Guest) × (guest_at guests t.0 ≡ Some g)
   pub named : (t : Tid) (g : Guest) → guest_at guests t.0 ≡ Some g → NamesBelow buffers g.program
   pub few : length guests ≤ THREADS
   -- what is under way is what would be chosen; a call that is under way has begun; a thread in no
   -- call has no woken thread in hand
   pub agrees : (d : UnderWay) → under_way ≡ Some d → under_way_of (chosen own guests) ≡ Some d
-  pub calls : (t : Tid) (g : Guest) → under_way ≡ Some (Calling t) → guest_at guests t.0 ≡ Some g → is_calling g.stage ≡ true
+  pub calls : (t : Tid) (g : Guest) → under_way ≡ Some (Calling t) → guest_at guests t.0 ≡ Some g
+      → is_calling g.stage ≡ true
   pub handed : (t : Tid) → own.current ≡ Some t → under_way ≡ None → own.hand ≡ None
   -- the trace has room for the entries of all calls that have begun
   pub room : length trace + begun_count guests ≤ limit
@@ -181,7 +200,8 @@ pub record SeenGrows (ActsFor : CpuId → Type 0) (cpu : CpuId) (old new : List 
   pub is : new ≡ mine ++ (others ++ old)
 
 -- the actions grow by those of the environment, then by this CPU's
-pub record ActsGrow {N : Type 0} (ActsFor : CpuId → Type 0) (cpu : CpuId) (old new : List (Action N)) : Type 0 where
+pub record ActsGrow {N : Type 0} (ActsFor : CpuId → Type 0) (cpu : CpuId)
+    (old new : List (Action N)) : Type 0 where
   pub others : List (Action N)
   pub mine : List (Action N)
   pub foreign : AreForeign ActsFor cpu_of_action others
@@ -198,10 +218,15 @@ Replies call effect (Some reply) = (f : Effect) × (effect ≡ Some f) × (reply
 -- a poll the call begins if it had not begun (stage `Idle`). It takes effect if the effect is
 -- fresh, and the effect's entry is then the trace's last. It returns if it has a reply, which is
 -- its effect's.
-pub data GuestsWent (c : CpuId) (guests : List (Option Guest)) (trace : List Entry) (guests2 : List (Option Guest)) (trace2 : List Entry) : Type 0 where
+pub data GuestsWent (c : CpuId) (guests : List (Option Guest)) (trace : List Entry)
+    (guests2 : List (Option Guest)) (trace2 : List Entry) : Type 0 where
   guests_rest : guests2 ≡ guests → trace2 ≡ trace → GuestsWent c guests trace guests2 trace2
-  guest_computes : (t : Tid) → guests2 ≡ with_guest guests t.0 computed → trace2 ≡ trace → GuestsWent c guests trace guests2 trace2
-  guest_passes : (t : Tid) (pass : Pass) → guests2 ≡ with_guest guests t.0 (after_pass pass) → trace2 ≡ trace → GuestsWent c guests trace guests2 trace2
-  guest_calls : (t : Tid) (g : Guest) (call : Call) (effect : Option Effect) (answer : Option Reply) → guest_at guests t.0 ≡ Some g → todo_of g ≡ Calls call
+  guest_computes : (t : Tid) → guests2 ≡ with_guest guests t.0 computed → trace2 ≡ trace
+      → GuestsWent c guests trace guests2 trace2
+  guest_passes : (t : Tid) (pass : Pass) → guests2 ≡ with_guest guests t.0 (after_pass pass)
+      → trace2 ≡ trace → GuestsWent c guests trace guests2 trace2
+  guest_calls : (t : Tid) (g : Guest) (call : Call) (effect : Option Effect) (answer : Option Reply)
+      → guest_at guests t.0 ≡ Some g → todo_of g ≡ Calls call
       → Replies call effect answer → guests2 ≡ with_guest guests t.0 (λ x. polled x effect answer)
-      → trace2 ≡ trace ++ entries_of c t (buffer_of call) (fresh_effect g.stage effect) → GuestsWent c guests trace guests2 trace2
+      → trace2 ≡ trace ++ entries_of c t (buffer_of call) (fresh_effect g.stage effect)
+      → GuestsWent c guests trace guests2 trace2

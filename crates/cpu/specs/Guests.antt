@@ -1,13 +1,22 @@
 -- A thread's guest: what it does next, what a poll of its call makes of it, and how its entries led
 -- to its private state. Lists of entries are newest first.
-use Rattle.std.specs.Prelude.{◌≡◌, ℕ, Bool, true, false, List, Option, Some, None, option_map, option_to_list}
-use Rattle.event_log.specs.{declared.{entries.{Entry.Entry, Kind.Kind}, ids.{BufId.BufId, CpuId.CpuId, Tid.Tid}}, Messages.Message}
-use Rattle.guest.specs.{declared.instructions.{Instruction.Instruction, Into.Into}, State.{State, at_start, next_of, message_from, moved_on, moved_into}}
-use Rattle.guest.specs.{State.{moved_aside, after_local, after_send, after_recv, after_close, after_closed, after_yield}, Calls.{IsProgramsCalls, HasEnded}}
-use Rattle.layer_traits.specs.declared.calls.{Call.{Call, TheVariants.{Send, Recv, Close}}, Effect.Effect, Reply.{Reply, TheVariants.{Sent, Got, Shut, Closed}}}
-use Rattle.layer_traits.specs.declared.{calls.Reply.TheVariants.NoBuffer, passes.Pass.{Pass, TheVariants.{YieldNow, End}}, call_states.CallState.CallState}
-use Rattle.{layer_traits.specs.Layers.BufferLaw.{IsEffectOf, begun_of, entry_of}, cpu.specs.declared.guests.{Guest.Guest, GuestStage.GuestStage}}
-use Rattle.cpu.specs.declared.guests.{GuestStage.TheVariants.{Idle, Begun, Done, Ended}, Todo.{Todo, TheVariants.{Finish, PassOn, Compute, Calls}}}
+use Rattle.std.specs.Prelude.{◌≡◌, ℕ, Bool, true, false, List, Option, Some, None, option_map}
+use Rattle.std.specs.Prelude.{option_to_list}
+use Rattle.event_log.specs.declared.{entries.{Entry.Entry, Kind.Kind}, ids.BufId.BufId}
+use Rattle.event_log.specs.{declared.ids.{CpuId.CpuId, Tid.Tid}, Messages.Message}
+use Rattle.guest.specs.{declared.instructions.{Instruction.Instruction, Into.Into}, State.State}
+use Rattle.guest.specs.State.{at_start, next_of, message_from, moved_on, moved_into, moved_aside}
+use Rattle.guest.specs.State.{after_local, after_send, after_recv, after_close, after_closed}
+use Rattle.guest.specs.{State.after_yield, Calls.{IsProgramsCalls, HasEnded}}
+use Rattle.layer_traits.specs.declared.calls.Call.{Call, TheVariants.{Send, Recv, Close}}
+use Rattle.layer_traits.specs.declared.calls.{Effect.Effect, Reply.{Reply, TheVariants.{Sent, Got}}}
+use Rattle.layer_traits.specs.declared.calls.Reply.TheVariants.{Shut, Closed, NoBuffer}
+use Rattle.layer_traits.specs.declared.passes.Pass.{Pass, TheVariants.{YieldNow, End}}
+use Rattle.layer_traits.specs.declared.call_states.CallState.{CallState}
+use Rattle.layer_traits.specs.Layers.BufferLaw.{IsEffectOf, begun_of, entry_of}
+use Rattle.cpu.specs.declared.guests.{Guest.Guest, GuestStage.{GuestStage, TheVariants.Idle}}
+use Rattle.cpu.specs.declared.guests.{GuestStage.TheVariants.{Begun, Done, Ended}, Todo.Todo}
+use Rattle.cpu.specs.declared.guests.Todo.TheVariants.{Finish, PassOn, Compute, Calls}
 use Rattle.event_log.specs.declared.entries.Kind.TheVariants as kind
 use Rattle.guest.specs.declared.instructions.Instruction.TheVariants as ins
 use Rattle.layer_traits.specs.declared.call_states.Stage.TheVariants as call_state_stage
@@ -99,13 +108,18 @@ state_after_effect other f s = s
 
 -- a guest's entries lead to its state, according to its stage: before the effect to its present
 -- state; after it, to the state after the effect
-abbrev pub HasComeIn : GuestStage → List Instruction → State → List Entry → Option Call → Option Effect → Type 0
+abbrev pub HasComeIn : GuestStage → List Instruction → State → List Entry → Option Call
+    → Option Effect → Type 0
 HasComeIn Idle program s es begun effect = (begun ≡ None) × IsProgramsCalls program es s
-HasComeIn Begun program s es begun effect = (c : Call) × (todo_at s (next_of program s) ≡ Calls c) × (begun ≡ Some c)
+HasComeIn Begun program s es begun effect =
+    (c : Call) × (todo_at s (next_of program s) ≡ Calls c) × (begun ≡ Some c)
     × (effect ≡ None) × IsProgramsCalls program es s
-HasComeIn Done program s es begun effect = (c : Call) × (f : Effect) × (todo_at s (next_of program s) ≡ Calls c) × (begun ≡ Some c)
-    × (effect ≡ Some f) × IsEffectOf c f × IsProgramsCalls program es (state_after_effect (next_of program s) f s)
-HasComeIn Ended program s es begun effect = (begun ≡ None) × IsProgramsCalls program es s × HasEnded program s
+HasComeIn Done program s es begun effect =
+    (c : Call) × (f : Effect) × (todo_at s (next_of program s) ≡ Calls c) × (begun ≡ Some c)
+    × (effect ≡ Some f) × IsEffectOf c f
+    × IsProgramsCalls program es (state_after_effect (next_of program s) f s)
+HasComeIn Ended program s es begun effect =
+    (begun ≡ None) × IsProgramsCalls program es s × HasEnded program s
 
 -- a call state in no call is between calls
 abbrev pub IsSettled : CallState → Type 0
@@ -113,7 +127,9 @@ IsSettled call_state = begun_of call_state ≡ None → call_state.stage ≡ cal
 
 -- a guest, its entries and its call state agree
 abbrev pub HasCome : Guest → List Entry → CallState → Type 0
-HasCome g es call_state = IsSettled call_state × HasComeIn g.stage g.program g.thread es (begun_of call_state) call_state.effect
+HasCome g es call_state =
+    IsSettled call_state × HasComeIn g.stage g.program g.thread es (begun_of call_state)
+    call_state.effect
 
 -- the effect that a call has had: a call that is about to begin has had none
 abbrev pub had : Option Call → Option Effect → Option Effect

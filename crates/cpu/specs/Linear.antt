@@ -1,8 +1,10 @@
 -- Message calls are linearizable (Herlihy and Wing 1990), with respect to the steps of a schedule.
 -- Each call takes effect in one step (its linearization point), at which it has begun and has not
 -- returned, and the one order is that of these steps.
-use Rattle.std.specs.{Prelude.{◌≡◌, ◌≢◌, ℕ, ◌<◌, ◌≤◌, List, [], ◌∷◌, ◌++◌, Contains, Some, length, slice_get}, List.AllByRecursion}
-use Rattle.{event_log.specs.declared.{entries.Entry.Entry, ids.CpuId.CpuId}, cpu.specs.{Claims.{CpuShown, IsMoment, Shown}, Cpus.GuestsWent}}
+use Rattle.std.specs.Prelude.{◌≡◌, ◌≢◌, ℕ, ◌<◌, ◌≤◌, List, [], ◌∷◌, ◌++◌, Contains, Some, length}
+use Rattle.std.specs.{Prelude.slice_get, List.AllByRecursion}
+use Rattle.event_log.specs.declared.{entries.Entry.Entry, ids.CpuId.CpuId}
+use Rattle.cpu.specs.{Claims.{CpuShown, IsMoment, Shown}, Cpus.GuestsWent}
 
 -- in a step of CPU c the order grows: after all calls that took effect before, at most one is
 -- appended, and it is c's
@@ -16,7 +18,8 @@ pub record OrderGrows (c : CpuId) (old new : List Entry) : Type 0 where
 -- change, so that only its calls begin, take effect or return.
 pub record CallsGoOn (c : CpuId) (old new : Shown) : Type 0 where
   pub order : OrderGrows c old.order new.order
-  pub own : (p q : CpuShown) → slice_get old.cpus c.0 ≡ Some p → slice_get new.cpus c.0 ≡ Some q → GuestsWent c p.guests p.trace q.guests q.trace
+  pub own : (p q : CpuShown) → slice_get old.cpus c.0 ≡ Some p → slice_get new.cpus c.0 ≡ Some q
+      → GuestsWent c p.guests p.trace q.guests q.trace
   pub others : (k : ℕ) → k ≢ c.0 → slice_get new.cpus k ≡ slice_get old.cpus k
 
 -- The run of these steps from old to new, moment by moment: a step is not taken, or the order grows
@@ -24,13 +27,16 @@ pub record CallsGoOn (c : CpuId) (old new : Shown) : Type 0 where
 -- more, which the thread is inside.
 pub data IsLinearizable (old : Shown) : List CpuId → Shown → Type 0 where
   begins : IsLinearizable old [] old
-  takes_none : {steps : List CpuId} {s : Shown} (c : CpuId) → IsLinearizable old steps s → IsLinearizable old (steps ++ c ∷ []) s
-  takes_step : {steps : List CpuId} {s : Shown} (c : CpuId) (r : Shown) → IsLinearizable old steps s → CallsGoOn c s r → IsMoment r
+  takes_none : {steps : List CpuId} {s : Shown} (c : CpuId) → IsLinearizable old steps s
+      → IsLinearizable old (steps ++ c ∷ []) s
+  takes_step : {steps : List CpuId} {s : Shown} (c : CpuId) (r : Shown) → IsLinearizable old steps s
+      → CallsGoOn c s r → IsMoment r
       → IsLinearizable old (steps ++ c ∷ []) r
 
 -- call a precedes call b
 abbrev pub ComesBefore : List Entry → Entry → Entry → Type 0
-ComesBefore order a b = (i : ℕ) × (j : ℕ) × (i < j) × (slice_get order i ≡ Some a) × (slice_get order j ≡ Some b)
+ComesBefore order a b =
+    (i : ℕ) × (j : ℕ) × (i < j) × (slice_get order i ≡ Some a) × (slice_get order j ≡ Some b)
 
 -- The order at a later moment extends the order at the first: real-time order is preserved. At the
 -- first moment, each call that had returned had taken effect, and none had that had not begun. Each
@@ -40,8 +46,11 @@ pub record KeepsRealTime (first later : Shown) : Type 0 where
   pub at_later : IsMoment later
   pub more : List Entry
   pub goes_on : later.order ≡ first.order ++ more
-  pub before : (a b : Entry) → Contains first.order a → Contains more b → ComesBefore later.order a b
+  pub before : (a b : Entry) → Contains first.order a → Contains more b
+      → ComesBefore later.order a b
 
 -- this holds of any two moments of a run
 abbrev pub LinearRunsKeepRealTime : Type 0
-LinearRunsKeepRealTime = (first later : Shown) (steps : List CpuId) → IsMoment first → IsLinearizable first steps later → KeepsRealTime first later
+LinearRunsKeepRealTime =
+    (first later : Shown) (steps : List CpuId) → IsMoment first → IsLinearizable first steps later
+    → KeepsRealTime first later

@@ -1,12 +1,19 @@
 -- What a system reports of its CPUs, its queues and its buffers is what the step table has there.
-use Rattle.std.specs.Prelude.{◌≡◌, ℕ, ◌<◌, ◌≤◌, true, false, List, [], length, Some, None, slice_get, slice_index, slice_index_or}
-use Rattle.event_log.specs.declared.{entries.Kind.Kind, ids.{BufId.BufId, LockId.TheVariants.{Buffer as AtBuffer, Pending}, Tid.Tid, TheConstants.THREADS}}
-use Rattle.event_log.specs.{declared.ids.CpuId.CpuId, Actions.phase, Buffers.{IsAllowedEffect, items_of}, Messages.Message, Runs.{Group, Receives, Sends}}
-use Rattle.{event_log.specs.Runs.group_of, layer_traits.specs.{declared.{calls.Place.Place, locked.Side.Side}, Threads.Places.pending_by}}
-use Rattle.{layer_traits.specs.Polling.Plans.is_in_section, thread_blocks.specs.Queues.is_in, cpu.specs.Claims.{CpuShown, IsPlaceOf, Shown, waiters_at}}
-use Rattle.cpu.specs.{Claims.buffer_at, Cpus.cpu_halted_at, Sound.IsSetupFor, Systems.whole_of, Wakeups.Quiet.{IsLive, IsNextEffect, IsStuck}}
-use Rattle.cpu.specs.Table.{Blocks.{Buffer, OfBuffer, OfPending, front, stands_in}, Setups.{Private, Setup, home_cpu, stands_at, thread_at}, Steps.Whole}
-use Rattle.cpu.specs.Table.{Steps.{block_at, cpu_numbered, halted_at}, Edits.{line_on, on_side}}
+use Rattle.std.specs.Prelude.{◌≡◌, ℕ, ◌<◌, ◌≤◌, true, false, List, [], length, Some, None}
+use Rattle.std.specs.Prelude.{slice_get, slice_index, slice_index_or}
+use Rattle.event_log.specs.declared.{entries.Kind.Kind, ids.BufId.BufId}
+use Rattle.event_log.specs.declared.ids.{LockId.TheVariants.{Buffer as AtBuffer, Pending}, Tid.Tid}
+use Rattle.event_log.specs.{declared.ids.{TheConstants.THREADS, CpuId.CpuId}, Actions.phase}
+use Rattle.event_log.specs.{Buffers.{IsAllowedEffect, items_of}, Messages.Message, Runs.Group}
+use Rattle.event_log.specs.Runs.{Receives, Sends, group_of}
+use Rattle.layer_traits.specs.declared.{calls.Place.Place, locked.Side.Side}
+use Rattle.layer_traits.specs.{Threads.Places.pending_by, Polling.Plans.is_in_section}
+use Rattle.{thread_blocks.specs.Queues.is_in, cpu.specs.Claims.{CpuShown, IsPlaceOf, Shown}}
+use Rattle.cpu.specs.{Claims.{waiters_at, buffer_at}, Cpus.cpu_halted_at, Sound.IsSetupFor}
+use Rattle.cpu.specs.{Systems.whole_of, Wakeups.Quiet.{IsLive, IsNextEffect, IsStuck}}
+use Rattle.cpu.specs.Table.{Blocks.{Buffer, OfBuffer, OfPending, front, stands_in}, Setups.Private}
+use Rattle.cpu.specs.Table.{Setups.{Setup, home_cpu, stands_at, thread_at}, Steps.{Whole, block_at}}
+use Rattle.cpu.specs.Table.{Steps.{cpu_numbered, halted_at}, Edits.{line_on, on_side}}
 use Rattle.layer_traits.specs.declared.calls.Place.TheVariants as place
 
 -- CPU c of the table has a private state that satisfies this predicate
@@ -15,7 +22,8 @@ CpuHas w c Has = (p : Private) × (slice_get w.cpus c.0 ≡ Some p) × Has p
 
 -- the table has buffer b, and it satisfies this predicate
 abbrev pub BlockHas : Setup → Whole → BufId → (Buffer → Type 0) → Type 0
-BlockHas setup w b Has = (k : Buffer) × (block_at setup (AtBuffer b) w.log ≡ Some (OfBuffer k)) × Has k
+BlockHas setup w b Has =
+    (k : Buffer) × (block_at setup (AtBuffer b) w.log ≡ Some (OfBuffer k)) × Has k
 
 -- thread t is at this place according to the table's lists: those of a CPU's private state, its
 -- pending queue, or those of a buffer
@@ -23,24 +31,31 @@ abbrev pub IsPlaceByTable : Setup → Whole → Tid → Place → Type 0
 IsPlaceByTable setup w t (place.Running c) = CpuHas w c (λ p. p.current ≡ Some t)
 IsPlaceByTable setup w t (place.Ready c) = CpuHas w c (λ p. stands_in t p.ready ≡ true)
 IsPlaceByTable setup w t (place.Pending c) =
-    (queue : List Tid) × (block_at setup (Pending c) w.log ≡ Some (OfPending queue)) × (stands_in t queue ≡ true)
+    (queue : List Tid) × (block_at setup (Pending c) w.log ≡ Some (OfPending queue))
+    × (stands_in t queue ≡ true)
 IsPlaceByTable setup w t (place.Hand c) = CpuHas w c (λ p. p.hand ≡ Some t)
-IsPlaceByTable setup w t (place.LockSleeper b) = BlockHas setup w b (λ k. stands_in t k.sleepers ≡ true)
-IsPlaceByTable setup w t (place.WaitRecv b) = BlockHas setup w b (λ k. stands_in t k.waiting_receivers ≡ true)
-IsPlaceByTable setup w t (place.WaitSend b) = BlockHas setup w b (λ k. stands_in t k.waiting_senders ≡ true)
-IsPlaceByTable setup w t place.Ended = CpuHas w (home_cpu setup t) (λ p. (thread_at p t).ended ≡ true)
+IsPlaceByTable setup w t (place.LockSleeper b) =
+    BlockHas setup w b (λ k. stands_in t k.sleepers ≡ true)
+IsPlaceByTable setup w t (place.WaitRecv b) =
+    BlockHas setup w b (λ k. stands_in t k.waiting_receivers ≡ true)
+IsPlaceByTable setup w t (place.WaitSend b) =
+    BlockHas setup w b (λ k. stands_in t k.waiting_senders ≡ true)
+IsPlaceByTable setup w t place.Ended =
+    CpuHas w (home_cpu setup t) (λ p. (thread_at p t).ended ≡ true)
 
 -- the system reports CPU k as it is: whether it has a section under way, why it is halted, its
 -- threads, its trace, which threads have ended, and which are pending for it
 pub record CpuIsObserved (setup : Setup) (s : Shown) (k : ℕ) (p : CpuShown) : Type 0 where
   pub inside : is_in_section (phase (cpu_numbered k) s.log) ≡ p.busy
-  pub halted : halted_at setup (cpu_numbered k) p.private ≡ cpu_halted_at p.own p.guests p.trace p.limit
+  pub halted : halted_at setup (cpu_numbered k) p.private
+      ≡ cpu_halted_at p.own p.guests p.trace p.limit
   pub current : p.private.current ≡ p.own.current
   pub ready : p.private.ready ≡ p.own.ready
   pub hand : p.private.hand ≡ p.own.hand
   pub trace : p.private.trace ≡ p.trace
   pub ended : (t : Tid) → t.0 < length s.homes → (thread_at p.private t).ended ≡ is_in t p.own.ended
-  pub pending : block_at setup (Pending (cpu_numbered k)) s.log ≡ Some (OfPending (pending_by s.moves (cpu_numbered k)))
+  pub pending : block_at setup (Pending (cpu_numbered k)) s.log
+      ≡ Some (OfPending (pending_by s.moves (cpu_numbered k)))
 
 -- the system reports buffer b as it is: which thread owns its lock, which sleep at it and which
 -- wait, what it holds, its capacity, and whether it is closed
@@ -55,12 +70,15 @@ pub record BufferIsObserved (s : Shown) (b : ℕ) (k : Buffer) : Type 0 where
 
 -- buffer b, as the system reports it, allows an effect of this kind with this message
 abbrev pub AllowsNow : Shown → ℕ → Kind → Message → Type 0
-AllowsNow s b e m = IsAllowedEffect e (slice_index_or s.closed b false) (slice_index s.caps b) (items_of s.contents b) m
+AllowsNow s b e m =
+    IsAllowedEffect e (slice_index_or s.closed b false) (slice_index s.caps b)
+    (items_of s.contents b) m
 
 -- No lost wake-up at buffer b, in terms of what the system reports. While no thread owns its lock,
 -- the first thread of neither wait queue waits although the buffer allows an effect of its call.
 pub record IsAwakeAt (s : Shown) (b : ℕ) (k : Buffer) : Type 0 where
-  pub on : (side : Side) → slice_index_or s.owners b None ≡ None → (t : Tid) (m : Message) → front (line_on side k) ≡ Some t
+  pub on : (side : Side) → slice_index_or s.owners b None ≡ None → (t : Tid) (m : Message)
+      → front (line_on side k) ≡ Some t
       → stands_in t (on_side side (waiters_at s b).receivers (waiters_at s b).senders) ≡ true
       → (e : Kind) → group_of e ≡ on_side side Receives Sends → AllowsNow s b e m → ⊥
 
@@ -74,9 +92,12 @@ pub record HasBuffer (setup : Setup) (s : Shown) (b : ℕ) : Type 0 where
 -- the system reports each CPU, each buffer and the place of each thread as it is; there is a CPU,
 -- and there are no more threads than a machine may have
 pub record ObservedByTable (s : Shown) : Type 0 where
-  pub cpus : (setup : Setup) → IsSetupFor setup s → (k : ℕ) (p : CpuShown) → slice_get s.cpus k ≡ Some p → CpuIsObserved setup s k p
-  pub buffers : (setup : Setup) → IsSetupFor setup s → (b : ℕ) → b < length s.caps → HasBuffer setup s b
-  pub places : (setup : Setup) → IsSetupFor setup s → (t : Tid) (at : Place) → t.0 < length s.homes → IsPlaceOf s t at
+  pub cpus : (setup : Setup) → IsSetupFor setup s → (k : ℕ) (p : CpuShown)
+      → slice_get s.cpus k ≡ Some p → CpuIsObserved setup s k p
+  pub buffers : (setup : Setup) → IsSetupFor setup s → (b : ℕ) → b < length s.caps
+      → HasBuffer setup s b
+  pub places : (setup : Setup) → IsSetupFor setup s → (t : Tid) (at : Place) → t.0 < length s.homes
+      → IsPlaceOf s t at
       → IsPlaceByTable setup (whole_of s) t at
   pub some : 0 < length s.cpus
   pub few : length s.homes ≤ THREADS
@@ -86,9 +107,14 @@ pub record ObservedByTable (s : Shown) : Type 0 where
 -- and no thread's place is among the sleepers of a lock.
 pub record IsStill (s : Shown) : Type 0 where
   pub stuck : (setup : Setup) → IsSetupFor setup s → IsStuck setup (whole_of s)
-  pub refused : (setup : Setup) → IsSetupFor setup s → (p : Private) (u : Tid) → IsLive setup (whole_of s) p u
+  pub refused : (setup : Setup) → IsSetupFor setup s → (p : Private) (u : Tid)
+      → IsLive setup (whole_of s) p u
       → (e : Kind) (asks : Group) (b : BufId) (m : Message)
-      → b.0 < length s.caps → group_of e ≡ asks → IsNextEffect (stands_at setup p u) (thread_at p u).guest asks b m → AllowsNow s b.0 e m → ⊥
-  pub unowned : (setup : Setup) → IsSetupFor setup s → (b : ℕ) → b < length s.caps → slice_index_or s.owners b None ≡ None
-  pub awake : (setup : Setup) → IsSetupFor setup s → (b : ℕ) → b < length s.caps → (waiters_at s b).sleepers ≡ []
-  pub nobody : (setup : Setup) → IsSetupFor setup s → (t : Tid) (b : BufId) → t.0 < length s.homes → IsPlaceOf s t (place.LockSleeper b) → ⊥
+      → b.0 < length s.caps → group_of e ≡ asks
+      → IsNextEffect (stands_at setup p u) (thread_at p u).guest asks b m → AllowsNow s b.0 e m → ⊥
+  pub unowned : (setup : Setup) → IsSetupFor setup s → (b : ℕ) → b < length s.caps
+      → slice_index_or s.owners b None ≡ None
+  pub awake : (setup : Setup) → IsSetupFor setup s → (b : ℕ) → b < length s.caps
+      → (waiters_at s b).sleepers ≡ []
+  pub nobody : (setup : Setup) → IsSetupFor setup s → (t : Tid) (b : BufId) → t.0 < length s.homes
+      → IsPlaceOf s t (place.LockSleeper b) → ⊥

@@ -2,10 +2,13 @@
 -- its. Therefore it has lost no wake-up, and a call returns if only its CPU steps and nothing
 -- contends with it.
 use Rattle.std.specs.Prelude.{◌≡◌, ℕ, ◌+◌, ◌<◌, ◌≤◌, List, [], ◌∷◌, length, map, replicate, Some}
-use Rattle.event_log.specs.declared.{entries.Kind.TheVariants.Close, ids.{BufId.BufId, CpuId.CpuId, LockId.TheVariants.Buffer as AtBuffer, Tid.Tid}}
-use Rattle.{boot.specs.Plan.BootPlan, cpu.specs.{Boots.homes_for, Claims.Shown, Systems.{GoesBy, whole_of}, Table.{Blocks.{Buffer, OfBuffer}, Setups.Setup}}}
-use Rattle.cpu.specs.{Table.{Setups.Private, Steps.{IsReached, Whole, block_at, system_step, whole_at_boot}}, Wakeups.Alone.{HasReturned, IsInCall, IsReady}}
-use Rattle.cpu.specs.Wakeups.{Alone.steps_to_return, Lost.NoWakeUpIsLost}
+use Rattle.event_log.specs.declared.{entries.Kind.TheVariants.Close, ids.{BufId.BufId, CpuId.CpuId}}
+use Rattle.event_log.specs.declared.ids.{LockId.TheVariants.Buffer as AtBuffer, Tid.Tid}
+use Rattle.{boot.specs.Plan.BootPlan, cpu.specs.{Boots.homes_for, Claims.Shown, Systems.GoesBy}}
+use Rattle.cpu.specs.{Systems.whole_of, Table.{Blocks.{Buffer, OfBuffer}, Setups.{Setup, Private}}}
+use Rattle.cpu.specs.Table.Steps.{IsReached, Whole, block_at, system_step, whole_at_boot}
+use Rattle.cpu.specs.Wakeups.Alone.{HasReturned, IsInCall, IsReady, steps_to_return}
+use Rattle.cpu.specs.Wakeups.Lost.{NoWakeUpIsLost}
 
 -- a setup of the step table is this system's: it agrees with each of its CPUs, and has as many
 pub record IsSetupFor (setup : Setup) (s : Shown) : Type 0 where
@@ -35,7 +38,8 @@ IsReachedByTable s = (setup : Setup) → IsSetupFor setup s → IsReached setup 
 -- buffer allows its call.
 pub record SoundByTable (s : Shown) : Type 0 where
   pub reached : IsReachedByTable s
-  pub awake : (setup : Setup) → IsSetupFor setup s → (b : BufId) (k : Buffer) → block_at setup (AtBuffer b) s.log ≡ Some (OfBuffer k) → NoWakeUpIsLost k
+  pub awake : (setup : Setup) → IsSetupFor setup s → (b : BufId) (k : Buffer)
+      → block_at setup (AtBuffer b) s.log ≡ Some (OfBuffer k) → NoWakeUpIsLost k
 
 -- a system of the table after one step of each of these CPUs, one after the other
 abbrev pub after_steps : Setup → List CpuId → Whole → Whole
@@ -44,7 +48,8 @@ after_steps setup (c ∷ more) s = after_steps setup more (system_step setup c s
 
 -- the system went from old to new by these steps of the step table
 abbrev pub RanByTable : Shown → List CpuId → Shown → Type 0
-RanByTable old steps new = (setup : Setup) → GoesBy setup old → whole_of new ≡ after_steps setup steps (whole_of old)
+RanByTable old steps new =
+    (setup : Setup) → GoesBy setup old → whole_of new ≡ after_steps setup steps (whole_of old)
 
 -- CPU c rests and is not halted, no spin lock is held or requested, and the running thread t is at
 -- a call that has not begun. No thread owns its buffer, which allows the call, and the call's wait
@@ -55,9 +60,14 @@ RanByTable old steps new = (setup : Setup) → GoesBy setup old → whole_of new
 -- buffer closed. A close wakes the first thread of each wait queue, if it waits, and threads of
 -- both only if the buffer's capacity is zero.
 abbrev pub ReturnsAlone : Shown → Type 0
-ReturnsAlone s = (setup : Setup) → IsSetupFor setup s → (c : CpuId) (p : Private) (t : Tid) → (ready : IsReady setup c (whole_of s) p t) → s.taken + 32 ≤ s.room
-    → ((new : Shown) → RanByTable s (replicate (steps_to_return setup c ready.effect ready.block) c) new
+ReturnsAlone s =
+    (setup : Setup) → IsSetupFor setup s → (c : CpuId) (p : Private) (t : Tid)
+    → (ready : IsReady setup c (whole_of s) p t) → s.taken + 32 ≤ s.room
+    → ((new : Shown) → RanByTable s (replicate (steps_to_return setup c ready.effect ready.block) c)
+    new
     → HasReturned (whole_of new) c p t ready.effect ready.buffer)
-    × ((n : ℕ) (before : Shown) → n + 1 ≡ steps_to_return setup c ready.effect ready.block → RanByTable s (replicate n c) before
+    × ((n : ℕ) (before : Shown) → n + 1 ≡ steps_to_return setup c ready.effect ready.block
+    → RanByTable s (replicate n c) before
     → IsInCall (whole_of before) c t)
-    × (ready.effect ≡ Close → 18 < steps_to_return setup c ready.effect ready.block → ready.block.capacity ≡ 0)
+    × (ready.effect ≡ Close → 18 < steps_to_return setup c ready.effect ready.block
+    → ready.block.capacity ≡ 0)

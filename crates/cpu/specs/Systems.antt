@@ -1,9 +1,13 @@
 -- The invariant of a system, what its steps leave unchanged, and why a CPU of it takes no step.
-use Rattle.std.specs.Prelude.{◌≡◌, ℕ, ◌+◌, ◌^◌, ◌<◌, ◌≤◌, ◌==◌, List, [], ◌∷◌, ◌++◌, length, map, Option, Some, None, slice_get, if◌then◌else◌}
-use Rattle.std.specs.List.{AllByRecursion}
-use Rattle.event_log.specs.{declared.{entries.Entry.Entry, ids.{CpuId.CpuId, Tid.Tid, TheConstants.{CPUS, THREADS}}}, Actions.{Action, Rests, phase}}
-use Rattle.layer_traits.specs.{declared.steps.{Reason.{Reason, TheVariants.StepsUsed}, Step.{Step, TheVariants.Stepped}}, Threads.Places.home_of}
-use Rattle.cpu.specs.{Table.{Setups.Setup, Steps.{Stepping, Whole, system_step, cpu_step}}, Tables.IsSetupOf, Cpus.{cpu_halted_at, reason_in, step_answer}}
+use Rattle.std.specs.Prelude.{◌≡◌, ℕ, ◌+◌, ◌^◌, ◌<◌, ◌≤◌, ◌==◌, List, [], ◌∷◌, ◌++◌, length, map}
+use Rattle.std.specs.{Prelude.{Option, Some, None, slice_get, if◌then◌else◌}, List.AllByRecursion}
+use Rattle.event_log.specs.declared.{entries.Entry.Entry, ids.{CpuId.CpuId, Tid.Tid}}
+use Rattle.event_log.specs.{declared.ids.TheConstants.{CPUS, THREADS}, Actions.{Action, Rests}}
+use Rattle.{event_log.specs.Actions.phase, layer_traits.specs.declared.steps.Reason.Reason}
+use Rattle.layer_traits.specs.declared.steps.{Reason.TheVariants.StepsUsed, Step.Step}
+use Rattle.layer_traits.specs.{declared.steps.Step.TheVariants.Stepped, Threads.Places.home_of}
+use Rattle.cpu.specs.Table.{Setups.Setup, Steps.{Stepping, Whole, system_step, cpu_step}}
+use Rattle.cpu.specs.{Tables.IsSetupOf, Cpus.{cpu_halted_at, reason_in, step_answer}}
 use Rattle.cpu.specs.{Claims.{CpuShown, IsMoment, Shown, programs_in}, Linear.CallsGoOn}
 
 -- what no step changes: capacities, home CPUs, programs, the number of CPUs, the room of each
@@ -38,13 +42,16 @@ abbrev pub reason_of : CpuId → Shown → Option Reason
 reason_of c s = reason_or (halted_in c s) s
 
 -- x has the number k, and satisfies the predicate
-pub record IsAt {X : Type 0} (IsOne : X → Type 0) (number : X → CpuId) (k : ℕ) (x : X) : Type 0 where
+pub record IsAt {X : Type 0} (IsOne : X → Type 0) (number : X → CpuId) (k : ℕ) (x : X) : Type
+    0 where
   pub number_is : number x ≡ record { 0 = k }
   pub holds : IsOne x
 
 -- the invariant of a machine and its CPUs
-pub record IsSystem {X N : Type 0} (IsOne : X → Type 0) (number : X → CpuId) (ActsFor MayHold : CpuId → Type 0) (IsStepwise : Type 0) (acts : List (Action N))
-    (cpus : List X) (homes : List CpuId) (seen : List Entry) (room taken left : ℕ) (Sound : Type 0) : Type 0 where
+pub record IsSystem {X N : Type 0} (IsOne : X → Type 0) (number : X → CpuId)
+    (ActsFor MayHold : CpuId → Type 0) (IsStepwise : Type 0) (acts : List (Action N))
+    (cpus : List X) (homes : List CpuId) (seen : List Entry) (room taken left : ℕ)
+    (Sound : Type 0) : Type 0 where
   -- each CPU's number is its place in the list, and it satisfies its predicate; there is at least
   -- one, and no more than a machine may have
   pub each : (k : ℕ) (x : X) → slice_get cpus k ≡ Some x → IsAt IsOne number k x
@@ -71,16 +78,19 @@ pub record IsSystem {X N : Type 0} (IsOne : X → Type 0) (number : X → CpuId)
 
 -- a system as the step table has it
 abbrev pub whole_of : Shown → Whole
-whole_of s = record { cpus = map (λ p. p.private) s.cpus; log = s.log; room = s.room; taken = s.taken }
+whole_of s =
+    record { cpus = map (λ p. p.private) s.cpus; log = s.log; room = s.room; taken = s.taken }
 
 -- a setup of the step table is this system's if it agrees with each of its CPUs
 pub record GoesBy (setup : Setup) (s : Shown) : Type 0 where
-  pub each : (k : ℕ) (p : CpuShown) → slice_get s.cpus k ≡ Some p → IsSetupOf setup s.homes s.caps p.guests p.limit
+  pub each : (k : ℕ) (p : CpuShown) → slice_get s.cpus k ≡ Some p
+      → IsSetupOf setup s.homes s.caps p.guests p.limit
 
 -- the system went from old to new by one step of CPU c in the step table
 abbrev pub SteppedByTable : CpuId → Shown → Shown → Step → Type 0
 SteppedByTable c old new answer = (setup : Setup) → GoesBy setup old
-    → ◌≡◌ {A = Stepping} (record { next = whole_of new; answer = answer }) (system_step setup c (whole_of old))
+    → ◌≡◌ {A = Stepping} (record { next = whole_of new; answer = answer })
+    (system_step setup c (whole_of old))
 
 -- What a step of CPU c does. If the CPU has no reason against it, it is taken and counted, and at
 -- most one call takes effect in it, after all that took effect before. It is the step table's if
@@ -88,15 +98,18 @@ SteppedByTable c old new answer = (setup : Setup) → GoesBy setup old
 pub data WentOn (IsStepwise : Type 0) (c : CpuId) (old new : Shown) : Type 0 where
   took : reason_of c old ≡ None → new.taken ≡ old.taken + 1 → CallsGoOn c old new → IsMoment new
       → (IsStepwise → SteppedByTable c old new Stepped) → WentOn IsStepwise c old new
-  stayed : (reason : Reason) → reason_of c old ≡ Some reason → new ≡ old → WentOn IsStepwise c old new
+  stayed : (reason : Reason) → reason_of c old ≡ Some reason → new ≡ old
+      → WentOn IsStepwise c old new
 
 -- what the steps of these CPUs do, one after the other
 pub data Ran (IsStepwise : Type 0) (start : Shown) : List CpuId → Shown → Type 0 where
   took_none : Ran IsStepwise start [] start
-  goes : {steps : List CpuId} {s : Shown} (c : CpuId) (r : Shown) → Ran IsStepwise start steps s → WentOn IsStepwise c s r
+  goes : {steps : List CpuId} {s : Shown} (c : CpuId) (r : Shown) → Ran IsStepwise start steps s
+      → WentOn IsStepwise c s r
       → Ran IsStepwise start (steps ++ c ∷ []) r
 
 -- the table's step of CPU c reports that it takes none, for this reason of the CPU
 abbrev pub HaltsByTable : CpuId → Shown → Option Reason → Type 0
-HaltsByTable c s own = (setup : Setup) → GoesBy setup s → (p : CpuShown) → slice_get s.cpus c.0 ≡ Some p
+HaltsByTable c s own =
+    (setup : Setup) → GoesBy setup s → (p : CpuShown) → slice_get s.cpus c.0 ≡ Some p
     → (cpu_step setup c p.private s.log).answer ≡ step_answer own

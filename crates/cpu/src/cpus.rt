@@ -49,7 +49,8 @@ impl<I: CallLayer<IpcLaw>> Cpu<I> {
     /// Returns what the CPU does next if it is not halted.
     #[inline(always)]
     fn choice(&self) -> Choice
-        requires { (t : _) → (threads_in (I.own self.now.part)).current ≡ Some t → t.0 < length self.now.guests.items }
+        requires { (t : _) → (threads_in (I.own self.now.part)).current ≡ Some t
+            → t.0 < length self.now.guests.items }
         ensures { result ≡ chosen (threads_in (I.own self.now.part)) self.now.guests.items }
     {
         let hand = self.part.hand();
@@ -75,8 +76,10 @@ impl<I: CallLayer<IpcLaw>> Cpu<I> {
     /// Requires: the running thread, if there is one, has a place in the table of guests.
     #[inline(always)]
     pub fn halted(&self) -> Option<Reason>
-        requires { (t : _) → (threads_in (I.own self.now.part)).current ≡ Some t → t.0 < length self.now.guests.items }
-        ensures { result ≡ cpu_halted_at (threads_in (I.own self.now.part)) self.now.guests.items self.now.trace.items self.now.limit }
+        requires { (t : _) → (threads_in (I.own self.now.part)).current ≡ Some t
+            → t.0 < length self.now.guests.items }
+        ensures { result ≡ cpu_halted_at (threads_in (I.own self.now.part)) self.now.guests.items
+            self.now.trace.items self.now.limit }
     {
         if self.guests.are_over() && self.part.hand().is_none() {
             return Some(Reason::AllEnded);
@@ -100,7 +103,8 @@ impl<I: CallLayer<IpcLaw>> Cpu<I> {
     /// Requires: the running thread, if there is one, has a place in the table of guests.
     #[inline(always)]
     pub fn reason(&self) -> Option<Reason>
-        requires { (t : _) → (threads_in (I.own self.now.part)).current ≡ Some t → t.0 < length self.now.guests.items }
+        requires { (t : _) → (threads_in (I.own self.now.part)).current ≡ Some t
+            → t.0 < length self.now.guests.items }
         ensures { result ≡ stops_at ⟦<I as CallLayer<IpcLaw>>⟧ self.now }
     {
         if self.part.is_busy() {
@@ -125,7 +129,8 @@ impl<I: CallLayer<IpcLaw>> Cpu<I> {
     #[inline(always)]
     fn call(&mut self, m: &mut I::Machine, thread: Tid, asked: Ghost<Call>, most: usize) -> usize
         requires goes { GoesAt ⟦<I as CallLayer<IpcLaw>>⟧ m.old self.old most }
-        requires chosen { chosen (threads_in (I.own self.old.part)) self.old.guests.items ≡ Polls thread asked }
+        requires chosen { chosen (threads_in (I.own self.old.part)) self.old.guests.items
+            ≡ Polls thread asked }
         requires not_full { begins_at (guest_at self.old.guests.items thread.0) ≡ true
             → length self.old.trace.items + begun_count self.old.guests.items < self.old.limit }
         ensures { RanWithin ⟦<I as CallLayer<IpcLaw>>⟧ m.old self.old most result m.new self.new }
@@ -143,7 +148,8 @@ impl<I: CallLayer<IpcLaw>> Cpu<I> {
     #[inline(always)]
     fn pass(&mut self, m: &mut I::Machine, pass: Pass)
         requires goes { GoesAt ⟦<I as CallLayer<IpcLaw>>⟧ m.old self.old 1 }
-        requires chosen { chosen (threads_in (I.own self.old.part)) self.old.guests.items ≡ Passes pass }
+        requires chosen { chosen (threads_in (I.own self.old.part)) self.old.guests.items
+            ≡ Passes pass }
         ensures { SteppedAt ⟦<I as CallLayer<IpcLaw>>⟧ m.old self.old m.new self.new }
     {
         let runs = self.part.current();
@@ -158,7 +164,8 @@ impl<I: CallLayer<IpcLaw>> Cpu<I> {
     #[inline(never)]
     fn passes(&mut self, m: &mut I::Machine, pass: Pass)
         requires goes { GoesAt ⟦<I as CallLayer<IpcLaw>>⟧ m.old self.old 1 }
-        requires chosen { chosen (threads_in (I.own self.old.part)) self.old.guests.items ≡ Passes pass }
+        requires chosen { chosen (threads_in (I.own self.old.part)) self.old.guests.items
+            ≡ Passes pass }
         ensures { SteppedAt ⟦<I as CallLayer<IpcLaw>>⟧ m.old self.old m.new self.new }
     {
         self.pass(m, pass);
@@ -171,9 +178,11 @@ impl<I: CallLayer<IpcLaw>> Cpu<I> {
     /// Requires: the running thread, if there is one, has a place in the table of guests.
     #[inline(always)]
     fn goes_on_draining(&self) -> bool
-        requires { (t : _) → (threads_in (I.own self.now.part)).current ≡ Some t → t.0 < length self.now.guests.items }
+        requires { (t : _) → (threads_in (I.own self.now.part)).current ≡ Some t
+            → t.0 < length self.now.guests.items }
         ensures live { result ≡ true → stops_at ⟦<I as CallLayer<IpcLaw>>⟧ self.now ≡ None }
-        ensures chosen { result ≡ true → chosen (threads_in (I.own self.now.part)) self.now.guests.items ≡ Passes Drain }
+        ensures chosen { result ≡ true
+            → chosen (threads_in (I.own self.now.part)) self.now.guests.items ≡ Passes Drain }
     {
         if self.part.current().is_some() || self.part.hand().is_some() || self.part.has_ready() {
             return false;
@@ -190,7 +199,8 @@ impl<I: CallLayer<IpcLaw>> Cpu<I> {
     #[inline(never)]
     fn drains(&mut self, m: &mut I::Machine, most: usize) -> usize
         requires goes { GoesAt ⟦<I as CallLayer<IpcLaw>>⟧ m.old self.old most }
-        requires chosen { chosen (threads_in (I.own self.old.part)) self.old.guests.items ≡ Passes Drain }
+        requires chosen { chosen (threads_in (I.own self.old.part)) self.old.guests.items
+            ≡ Passes Drain }
         ensures { RanWithin ⟦<I as CallLayer<IpcLaw>>⟧ m.old self.old most result m.new self.new }
     {
         let mut taken = 0;
@@ -210,7 +220,8 @@ impl<I: CallLayer<IpcLaw>> Cpu<I> {
     #[inline(always)]
     fn compute(&mut self, m: &mut I::Machine, thread: Tid)
         requires goes { GoesAt ⟦<I as CallLayer<IpcLaw>>⟧ m.old self.old 1 }
-        requires chosen { chosen (threads_in (I.own self.old.part)) self.old.guests.items ≡ Computes thread }
+        requires chosen { chosen (threads_in (I.own self.old.part)) self.old.guests.items
+            ≡ Computes thread }
         ensures { SteppedAt ⟦<I as CallLayer<IpcLaw>>⟧ m.old self.old m.new self.new }
     {
         self.guests.note_compute(thread);
@@ -279,7 +290,8 @@ impl<I: CallLayer<IpcLaw>> Cpu<I> {
         ensures answer { result ≡ step_answer (stops_at ⟦<I as CallLayer<IpcLaw>>⟧ self.old) }
         ensures still { (r : Reason) → result ≡ Halted r → (m.new ≡ m.old) × (self.new ≡ self.old) }
         ensures table { I.IsStepwise → IsTabledAt ⟦<I as CallLayer<IpcLaw>>⟧ m.new self.new }
-        ensures steps { I.IsStepwise → WentAt ⟦<I as CallLayer<IpcLaw>>⟧ m.old self.old m.new self.new result }
+        ensures steps { I.IsStepwise
+            → WentAt ⟦<I as CallLayer<IpcLaw>>⟧ m.old self.old m.new self.new result }
     {
         if let Some(reason) = self.reason() {
             return Step::Halted(reason);
@@ -301,8 +313,10 @@ impl<I: CallLayer<IpcLaw>> Cpu<I> {
         ensures few { BeginWith (I.cpu_of self.now.part) result steps.now }
         ensures still { result ≡ 0 → m.new ≡ m.old }
         ensures live { 0 < result → stops_at ⟦<I as CallLayer<IpcLaw>>⟧ self.now ≡ None }
-        ensures spun { Spun I.Fits I.opening I.site I.seen I.room I.ActsFor I.MayHold result m.old m.new }
-        ensures tries { I.IsStepwise → Misses (I.cpu_of self.now.part) result (I.acts m.old) (I.acts m.new) }
+        ensures spun { Spun I.Fits I.opening I.site I.seen I.room I.ActsFor I.MayHold result m.old
+            m.new }
+        ensures tries { I.IsStepwise
+            → Misses (I.cpu_of self.now.part) result (I.acts m.old) (I.acts m.new) }
     {
         if steps.is_empty() || !self.part.is_busy() {
             return 0;
@@ -325,7 +339,8 @@ impl<I: CallLayer<IpcLaw>> Cpu<I> {
         ensures answer { result ≡ step_answer (stops_at ⟦<I as CallLayer<IpcLaw>>⟧ self.old) }
         ensures still { (r : Reason) → result ≡ Halted r → (m.new ≡ m.old) × (self.new ≡ self.old) }
         ensures table { I.IsStepwise → IsTabledAt ⟦<I as CallLayer<IpcLaw>>⟧ m.new self.new }
-        ensures steps { I.IsStepwise → WentAt ⟦<I as CallLayer<IpcLaw>>⟧ m.old self.old m.new self.new result }
+        ensures steps { I.IsStepwise
+            → WentAt ⟦<I as CallLayer<IpcLaw>>⟧ m.old self.old m.new self.new result }
     {
         if self.part.look(m) {
             return Step::Stepped;
@@ -376,8 +391,10 @@ fn note_effect(
     fresh: bool,
     effect: &Option<Effect>,
 )
-    requires { (f : _) → (if fresh then effect.now else None) ≡ Some f → length trace.old.items < vec_capacity trace.old }
-    ensures items { trace.new.items ≡ trace.old.items ++ entries_of cpu thread buffer (if fresh then effect.now else None) }
+    requires { (f : _) → (if fresh then effect.now else None) ≡ Some f
+        → length trace.old.items < vec_capacity trace.old }
+    ensures items { trace.new.items
+        ≡ trace.old.items ++ entries_of cpu thread buffer (if fresh then effect.now else None) }
     ensures capacity { vec_capacity trace.old ≤ vec_capacity trace.new }
 {
     if !fresh {

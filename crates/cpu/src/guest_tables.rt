@@ -138,8 +138,11 @@ impl Guests {
         answer: Option<ReplyKind>,
     ) -> bool
         requires { thread.0 < length self.old.items }
-        ensures guests { self.new.items ≡ with_guest self.old.items thread.0 (λ g. polled g effect.now (answer_with effect.now answer)) }
-        ensures fresh { (if result then effect.now else None) ≡ fresh_at (guest_at self.old.items thread.0) effect.now }
+        ensures guests { self.new.items
+            ≡ with_guest self.old.items thread.0
+            (λ g. polled g effect.now (answer_with effect.now answer)) }
+        ensures fresh { (if result then effect.now else None)
+            ≡ fresh_at (guest_at self.old.items thread.0) effect.now }
     {
         let Some(guest) = &mut self.table[usize::from(thread.0)] else {
             return false;
@@ -217,9 +220,11 @@ fn recount(begun: &mut usize, live: &mut usize, before: GuestStage, after: Guest
     requires begun { one_if (is_begun before) ≤ begun.old }
     requires begun_room { begun.old + one_if (is_begun after) < 2 ^ 64 + one_if (is_begun before) }
     requires live { one_if (not (is_ended before)) ≤ live.old }
-    requires live_room { live.old + one_if (not (is_ended after)) < 2 ^ 64 + one_if (not (is_ended before)) }
+    requires live_room { live.old + one_if (not (is_ended after))
+        < 2 ^ 64 + one_if (not (is_ended before)) }
     ensures begun { begun.new + one_if (is_begun before) ≡ begun.old + one_if (is_begun after) }
-    ensures live { live.new + one_if (not (is_ended before)) ≡ live.old + one_if (not (is_ended after)) }
+    ensures live { live.new + one_if (not (is_ended before))
+        ≡ live.old + one_if (not (is_ended after)) }
 {
     // Most polls leave the stage unchanged.
     if before != after {

@@ -186,7 +186,8 @@ impl Guest {
     /// Returns whether an effect that the guest's call has after a poll was made by that poll.
     #[inline(always)]
     pub(crate) fn awaits(&self) -> bool
-        ensures { (effect : Option Effect) → (if result then effect else None) ≡ fresh_effect self.now.stage effect }
+        ensures { (effect : Option Effect)
+            → (if result then effect else None) ≡ fresh_effect self.now.stage effect }
     {
         match self.stage {
             GuestStage::Done => false,

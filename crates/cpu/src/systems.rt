@@ -93,9 +93,11 @@ where
         ensures calls { CallsGoOn cpu self.old self.new }
         ensures plan { SamePlan self.old self.new }
         // A step that is taken is the step of the step table.
-        ensures steps { I.IsStepwise → result ≡ Stepped → SteppedByTable cpu self.old self.new Stepped }
+        ensures steps { I.IsStepwise → result ≡ Stepped
+            → SteppedByTable cpu self.old self.new Stepped }
         // If none is taken, the step table takes none for the same reason.
-        ensures halts { I.IsStepwise → (r : Reason) → result ≡ Halted r → SteppedByTable cpu self.old self.new (Halted r) }
+        ensures halts { I.IsStepwise → (r : Reason) → result ≡ Halted r
+            → SteppedByTable cpu self.old self.new (Halted r) }
         // The step table reaches the system, no wake-up is lost, and the system shows the table's
         // state.
         ensures sound { I.IsStepwise → SoundByTable self.new }
@@ -346,8 +348,11 @@ where
     /// lists, owners, moves and actions the system shows, and no other holder acts in it.
     pub fn machine(&self) -> &I::Machine
         ensures acts { (c : CpuId) → c.0 < CPUS → I.ActsFor result.now c }
-        ensures shows { self.now ≡ shown_of (caps_in (I.opening result.now)) (homes_in (I.opening result.now)) (I.seen result.now) (I.wait_lists result.now)
-            (I.owner result.now) (I.moves result.now) (I.acts result.now) self.now.cpus self.now.room self.now.taken }
+        ensures shows { self.now
+            ≡ shown_of (caps_in (I.opening result.now)) (homes_in (I.opening result.now))
+            (I.seen result.now) (I.wait_lists result.now)
+            (I.owner result.now) (I.moves result.now) (I.acts result.now) self.now.cpus
+            self.now.room self.now.taken }
     {
         &self.machine
     }

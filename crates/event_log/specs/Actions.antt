@@ -2,7 +2,8 @@
 -- (Take), polled it (Try) and released it (Give). A Give carries the name of the section that it
 -- ends. Lists are newest first, and numbers are not modulo 2^64.
 use Rattle.std.specs.Prelude.{◌≡◌, ℕ, ◌<◌, Bool, false, List, [], ◌∷◌, ◌==◌, map, if◌then◌else◌}
-use Rattle.event_log.specs.declared.{ids.{CpuId.CpuId, LockId.LockId, TheConstants.CPUS}, events.Event.{Event, TheVariants.{Draw, Look, Free}}}
+use Rattle.event_log.specs.declared.ids.{CpuId.CpuId, LockId.LockId, TheConstants.CPUS}
+use Rattle.event_log.specs.declared.events.Event.{Event, TheVariants.{Draw, Look, Free}}
 use Rattle.event_log.specs.History.{same_cpu, same_lock, how_many, IsLawful}
 
 -- an action at a lock: a request, which takes a place in its queue; a poll, which tries to enter;
@@ -73,7 +74,8 @@ spot_of cpu (Give by lock name ∷ past) = spot_of cpu past
 -- says. While it holds the lock it may release it.
 abbrev pub MayAct : {N : Type 0} → List (Action N) → Action N → Type 0
 MayAct past (Take cpu lock) = (cpu.0 < CPUS) × (phase cpu past ≡ Rests)
-MayAct past (Try cpu lock hit) = (phase cpu past ≡ Waits lock) × (hit ≡ (gives lock past == spot_of cpu past))
+MayAct past (Try cpu lock hit) =
+    (phase cpu past ≡ Waits lock) × (hit ≡ (gives lock past == spot_of cpu past))
 MayAct past (Give cpu lock name) = phase cpu past ≡ Holds lock
 
 -- a legal list of actions

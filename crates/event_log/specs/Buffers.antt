@@ -1,9 +1,12 @@
 -- What first-in first-out buffers hold, and what one send, receive or close does to one of them.
 -- Capacities are a list by buffer number; contents are a list by buffer number of lists of
 -- messages, front first.
-use Rattle.std.specs.Prelude.{◌≡◌, ℕ, ◌<◌, Bool, true, false, ◌≤◌, List, [], ◌∷◌, ◌++◌, length, map, drop, Some, slice_get, slice_index_or}
-use Rattle.event_log.specs.{declared.ids.TheConstants.CAPACITY, declared.entries.Kind.Kind, Messages.Message, Messages.no_message}
-use Rattle.event_log.specs.declared.entries.Kind.TheVariants.{Send, Recv, Close, SendClosed, RecvClosed}
+use Rattle.std.specs.Prelude.{◌≡◌, ℕ, ◌<◌, Bool, true, false, ◌≤◌, List, [], ◌∷◌, ◌++◌, length, map}
+use Rattle.std.specs.Prelude.{drop, Some, slice_get, slice_index_or}
+use Rattle.event_log.specs.declared.{ids.TheConstants.CAPACITY, entries.Kind.Kind}
+use Rattle.event_log.specs.declared.entries.Kind.TheVariants.{Send, Recv, Close, SendClosed}
+use Rattle.event_log.specs.{declared.entries.Kind.TheVariants.RecvClosed, Messages.Message}
+use Rattle.event_log.specs.Messages.{no_message}
 
 -- a buffer holds at most `capacity` messages, which is from 1 to CAPACITY
 abbrev pub IsCapacity : ℕ → Type 0
@@ -26,7 +29,8 @@ IsAllowedEffect Send closed capacity items message = (closed ≡ false) × (leng
 IsAllowedEffect Recv closed capacity items message = slice_get items 0 ≡ Some message
 IsAllowedEffect Close closed capacity items message = message ≡ no_message
 IsAllowedEffect SendClosed closed capacity items message = closed ≡ true
-IsAllowedEffect RecvClosed closed capacity items message = (closed ≡ true) × (items ≡ []) × (message ≡ no_message)
+IsAllowedEffect RecvClosed closed capacity items message =
+    (closed ≡ true) × (items ≡ []) × (message ≡ no_message)
 
 -- a send puts the message after the others; a receive removes the first; each other effect leaves
 -- the items

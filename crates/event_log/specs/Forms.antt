@@ -4,7 +4,9 @@ use Rattle.event_log.specs.{declared.events.Event.Event, WordsLog.{MayFollow, Is
 
 -- wherever the log, oldest first, is split at an event, the event may follow the history before it
 abbrev pub IsLawfulLog : {E : Type 0} → (List E → E → Type 0) → List E → Type 0
-IsLawfulLog {E} May log = (before : List E) (e : E) (later : List E) → log ≡ before ++ (e ∷ later) → May (reverse before) e
+IsLawfulLog {E} May log =
+    (before : List E) (e : E) (later : List E) → log ≡ before ++ (e ∷ later)
+    → May (reverse before) e
 
 -- a legal words log, oldest first
 abbrev pub IsLegalLog : {M : Type 0} → List (Event M) → Type 0
@@ -16,4 +18,6 @@ BothFormsAgree M = (log : List (Event M)) → IsLegalLog log ↔ IsLegalWords (r
 
 -- a log with one more event is legal exactly if it was, and the event may follow it
 abbrev pub LegalLogsGrow : Type 0 → Type 0
-LegalLogsGrow M = (log : List (Event M)) (e : Event M) → IsLegalLog (log ++ (e ∷ [])) ↔ (IsLegalLog log × MayFollow (reverse log) e)
+LegalLogsGrow M =
+    (log : List (Event M)) (e : Event M)
+    → IsLegalLog (log ++ (e ∷ [])) ↔ (IsLegalLog log × MayFollow (reverse log) e)

@@ -1,8 +1,11 @@
 -- The log of locks with a grant word for each waiter, newest first, and which such logs are legal.
-use Rattle.std.specs.Prelude.{◌≡◌, ℕ, ◌+◌, ◌%◌, ◌^◌, ◌<◌, ◌≤◌, Bool, false, List, [], ◌∷◌, ◌==◌, map, if◌then◌else◌}
-use Rattle.event_log.specs.declared.{ids.{CpuId.CpuId, LockId.LockId, TheConstants.CPUS}, grants.GrantEvent.{GrantEvent, TheVariants.{Take, Peek, Give}}}
-use Rattle.event_log.specs.{History.{same_cpu, same_lock, how_many, IsLawful}, WordsLog.{LockPhase, Idle, Waiting, Holding}, Actions.Action}
-use Rattle.event_log.specs.Actions.{Take as TakePlace, Try as TryEntry, Give as GiveOn, AreLegal}
+use Rattle.std.specs.Prelude.{◌≡◌, ℕ, ◌+◌, ◌%◌, ◌^◌, ◌<◌, ◌≤◌, Bool, false, List, [], ◌∷◌, ◌==◌}
+use Rattle.std.specs.Prelude.{map, if◌then◌else◌}
+use Rattle.event_log.specs.declared.ids.{CpuId.CpuId, LockId.LockId, TheConstants.CPUS}
+use Rattle.event_log.specs.declared.grants.GrantEvent.{GrantEvent, TheVariants.{Take, Peek, Give}}
+use Rattle.event_log.specs.{History.{same_cpu, same_lock, how_many, IsLawful}, WordsLog.LockPhase}
+use Rattle.event_log.specs.{WordsLog.{Idle, Waiting, Holding}, Actions.{Action, Take as TakePlace}}
+use Rattle.event_log.specs.Actions.{Try as TryEntry, Give as GiveOn, AreLegal}
 
 -- the CPU that acts
 abbrev pub cpu_of_grant : {M : Type 0} → GrantEvent M → CpuId
@@ -23,13 +26,15 @@ tickets lock past = how_many (is_ticket lock) past
 -- where an event leaves the CPU that acts: a Peek succeeds if it reads its ticket plus 1
 abbrev pub left_by_grant : {M : Type 0} → GrantEvent M → LockPhase
 left_by_grant (Take cpu lock ticket) = Waiting lock ticket
-left_by_grant (Peek cpu lock ticket read) = if read == (ticket + 1) % 2 ^ 64 then Holding lock ticket else Waiting lock ticket
+left_by_grant (Peek cpu lock ticket read) =
+    if read == (ticket + 1) % 2 ^ 64 then Holding lock ticket else Waiting lock ticket
 left_by_grant (Give cpu lock mark) = Idle
 
 -- where a CPU is, according to its newest event
 abbrev pub grant_lock_phase : {M : Type 0} → CpuId → List (GrantEvent M) → LockPhase
 grant_lock_phase cpu [] = Idle
-grant_lock_phase cpu (e ∷ past) = if same_cpu (cpu_of_grant e) cpu then left_by_grant e else grant_lock_phase cpu past
+grant_lock_phase cpu (e ∷ past) =
+    if same_cpu (cpu_of_grant e) cpu then left_by_grant e else grant_lock_phase cpu past
 
 -- the ticket that a CPU holds; 0 if it holds none
 abbrev pub ticket_in : LockPhase → ℕ
@@ -60,8 +65,10 @@ abbrev pub MayFollowGrants : {M : Type 0} → List (GrantEvent M) → GrantEvent
 MayFollowGrants past (Take cpu lock ticket) =
     (cpu.0 < CPUS) × (grant_lock_phase cpu past ≡ Idle) × (ticket ≡ tickets lock past % 2 ^ 64)
 MayFollowGrants past (Peek cpu lock ticket read) =
-    (grant_lock_phase cpu past ≡ Waiting lock ticket) × (read ≡ grant_word lock (ticket % CPUS) past)
-MayFollowGrants past (Give cpu lock mark) = (ticket : ℕ) × (grant_lock_phase cpu past ≡ Holding lock ticket)
+    (grant_lock_phase cpu past ≡ Waiting lock ticket)
+    × (read ≡ grant_word lock (ticket % CPUS) past)
+MayFollowGrants past (Give cpu lock mark) =
+    (ticket : ℕ) × (grant_lock_phase cpu past ≡ Holding lock ticket)
 
 -- a legal log of grant words
 abbrev pub IsLegalGrants : {M : Type 0} → List (GrantEvent M) → Type 0
@@ -80,15 +87,18 @@ acts_of_grants name log = map (act_of_grant name) log
 -- simulation: a legal log of grant words is a legal list of actions. A word says exactly which
 -- ticket index is served
 abbrev pub GrantsTellSpots : Type 0 → Type 0
-GrantsTellSpots M = (log : List (GrantEvent M)) → IsLegalGrants log → AreLegal (acts_of_grants (λ (m : M). m) log)
+GrantsTellSpots M =
+    (log : List (GrantEvent M)) → IsLegalGrants log → AreLegal (acts_of_grants (λ (m : M). m) log)
 
 -- mutual exclusion: two CPUs are never inside one lock, whatever their tickets are
 abbrev pub OneInsideGrants : Type 0 → Type 0
-OneInsideGrants M = (log : List (GrantEvent M)) → IsLegalGrants log → (a b : CpuId) (lock : LockId) (s t : ℕ)
+OneInsideGrants M =
+    (log : List (GrantEvent M)) → IsLegalGrants log → (a b : CpuId) (lock : LockId) (s t : ℕ)
     → grant_lock_phase a log ≡ Holding lock s → grant_lock_phase b log ≡ Holding lock t → a ≡ b
 
 -- What a grant word holds after `given` releases of a lock: it admits the latest ticket index k
 -- that was assigned to it. It holds 0 as long as none was.
 pub record WordFits (word given held : ℕ) : Type 0 where
-  pub written : word ≤ given → (k : ℕ) × (k ≤ given) × (given < k + CPUS) × (k % CPUS ≡ word) × (held ≡ (k + 1) % 2 ^ 64)
+  pub written : word ≤ given
+      → (k : ℕ) × (k ≤ given) × (given < k + CPUS) × (k % CPUS ≡ word) × (held ≡ (k + 1) % 2 ^ 64)
   pub unwritten : given < word → held ≡ 0

@@ -1,7 +1,8 @@
 -- Histories: lists of events, newest first. Which event may follow which history, whose events they
 -- are, and how a history grows.
 use Rattle.std.specs.Prelude.{◌≡◌, ℕ, ◌+◌, Bool, false, List, [], ◌∷◌, ◌++◌, ◌==◌, if◌then◌else◌}
-use Rattle.event_log.specs.declared.ids.{CpuId.CpuId, LockId.LockId, LockId.TheVariants.Pending, LockId.TheVariants.Buffer}
+use Rattle.event_log.specs.declared.ids.{CpuId.CpuId, LockId.{LockId, TheVariants.Pending}}
+use Rattle.event_log.specs.declared.ids.LockId.TheVariants.{Buffer}
 
 -- whether two CPUs are one
 abbrev pub same_cpu : CpuId → CpuId → Bool
@@ -27,7 +28,8 @@ how_many picks (e ∷ past) = if picks e then how_many picks past + 1 else how_m
 -- this CPU's own events, newest first
 abbrev pub own_events : {E : Type 0} → (E → CpuId) → CpuId → List E → List E
 own_events by cpu [] = []
-own_events by cpu (e ∷ past) = if same_cpu (by e) cpu then e ∷ own_events by cpu past else own_events by cpu past
+own_events by cpu (e ∷ past) =
+    if same_cpu (by e) cpu then e ∷ own_events by cpu past else own_events by cpu past
 
 -- none of these events is this CPU's
 abbrev pub AreOthers : {E : Type 0} → (E → CpuId) → CpuId → List E → Type 0
@@ -39,13 +41,15 @@ abbrev pub AreForeign : {E : Type 0} → (CpuId → Type 0) → (E → CpuId) �
 AreForeign ActsFor by others = (c : CpuId) → ActsFor c → AreOthers by c others
 
 -- the history has grown by this event, added after environment events
-pub record Adds {E : Type 0} (ActsFor : CpuId → Type 0) (by : E → CpuId) (e : E) (old new : List E) : Type 0 where
+pub record Adds {E : Type 0} (ActsFor : CpuId → Type 0) (by : E → CpuId) (e : E)
+    (old new : List E) : Type 0 where
   pub others : List E
   pub foreign : AreForeign ActsFor by others
   pub is : new ≡ e ∷ (others ++ old)
 
 -- the history has grown only by environment events
-pub record Grows {E : Type 0} (ActsFor : CpuId → Type 0) (by : E → CpuId) (old new : List E) : Type 0 where
+pub record Grows {E : Type 0} (ActsFor : CpuId → Type 0) (by : E → CpuId) (old new : List E) : Type
+    0 where
   pub others : List E
   pub foreign : AreForeign ActsFor by others
   pub is : new ≡ others ++ old

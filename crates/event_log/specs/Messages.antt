@@ -1,6 +1,7 @@
 -- What a buffer carries: a message is a list of one to eight numbers, its words. The one word 0
 -- also spells that there is no message.
-use Rattle.std.specs.{Prelude.{◌-◌, ◌<◌, ◌≤◌, ◌^◌, ℕ, List, [], ◌∷◌, ◌++◌, length, replicate, slice_index_or}, List.AllByRecursion}
+use Rattle.std.specs.Prelude.{◌-◌, ◌<◌, ◌≤◌, ◌^◌, ℕ, List, [], ◌∷◌, ◌++◌, length, replicate}
+use Rattle.std.specs.{Prelude.slice_index_or, List.AllByRecursion}
 use Rattle.event_log.specs.declared.messages.TheConstants.{WORDS}
 
 -- a message

@@ -1,5 +1,6 @@
 -- Reading one part after another, where the first fault ends it.
-use Rattle.std.specs.Prelude.{ℕ, ◌+◌, List, [], ◌∷◌, Option, Some, Result, Ok, Err, option_map, option_and_then}
+use Rattle.std.specs.Prelude.{ℕ, ◌+◌, List, [], ◌∷◌, Option, Some, Result, Ok, Err, option_map}
+use Rattle.std.specs.Prelude.{option_and_then}
 
 infixl 10 ◌>>=◌
 -- continues with the value, if there is one

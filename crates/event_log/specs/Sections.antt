@@ -1,6 +1,7 @@
 -- Critical sections, newest first, and the block that they leave.
 use Rattle.std.specs.Prelude.{List, [], ◌∷◌, option_map, Option, if◌then◌else◌}
-use Rattle.event_log.specs.{declared.{ids.{CpuId.CpuId, LockId.LockId}, events.Event.{Event, TheVariants.{Draw, Look, Free}}}, History.same_lock}
+use Rattle.event_log.specs.declared.{ids.{CpuId.CpuId, LockId.LockId}, events.Event.Event}
+use Rattle.event_log.specs.{declared.events.Event.TheVariants.{Draw, Look, Free}, History.same_lock}
 use Rattle.event_log.specs.Actions.{Action, Take, Try, Give}
 
 -- a section: which CPU edited the block of which lock, and how
@@ -22,18 +23,21 @@ abbrev pub sections_of : {M E : Type 0} → (M → E) → List (Event M) → Lis
 sections_of edit [] = []
 sections_of edit (Draw cpu lock ticket ∷ past) = sections_of edit past
 sections_of edit (Look cpu lock ticket read ∷ past) = sections_of edit past
-sections_of edit (Free cpu lock mark ∷ past) = record { cpu = cpu; lock = lock; edit = edit mark } ∷ sections_of edit past
+sections_of edit (Free cpu lock mark ∷ past) =
+    record { cpu = cpu; lock = lock; edit = edit mark } ∷ sections_of edit past
 
 -- the sections among actions: the Gives, each under its name
 abbrev pub sections_in : {N : Type 0} → List (Action N) → List (Section N)
 sections_in [] = []
 sections_in (Take cpu lock ∷ past) = sections_in past
 sections_in (Try cpu lock hit ∷ past) = sections_in past
-sections_in (Give cpu lock name ∷ past) = record { cpu = cpu; lock = lock; edit = name } ∷ sections_in past
+sections_in (Give cpu lock name ∷ past) =
+    record { cpu = cpu; lock = lock; edit = name } ∷ sections_in past
 
 -- the block of a lock after these sections: the opening block, edited by each of the lock's
 -- sections in turn
-abbrev pub block_after : {E B : Type 0} → (E → B → B) → (LockId → Option B) → LockId → List (Section E) → Option B
+abbrev pub block_after : {E B : Type 0} → (E → B → B) → (LockId → Option B) → LockId
+    → List (Section E) → Option B
 block_after edited opening lock [] = opening lock
 block_after edited opening lock (s ∷ past) =
     if same_lock lock s.lock

@@ -1,8 +1,9 @@
 -- First in, first out, as seen by a user: what was received from each buffer is, in order, what was
 -- sent to it, and the rest is left.
 use Rattle.std.specs.Prelude.{◌≡◌, ℕ, ◌==◌, List, [], ◌∷◌, ◌++◌, if◌then◌else◌}
-use Rattle.event_log.specs.{declared.entries.{Kind.{Kind, TheVariants.{Send, Recv, Close, SendClosed, RecvClosed}}, Entry.Entry}, Messages.Message}
-use Rattle.event_log.specs.{Buffers.items_of, Runs.IsRun}
+use Rattle.event_log.specs.declared.entries.Kind.{Kind, TheVariants.{Send, Recv, Close, SendClosed}}
+use Rattle.event_log.specs.declared.entries.{Kind.TheVariants.RecvClosed, Entry.Entry}
+use Rattle.event_log.specs.{Messages.Message, Buffers.items_of, Runs.IsRun}
 
 -- what an effect puts before the messages that are put later: a send its message, each other effect
 -- none
@@ -30,7 +31,8 @@ sent_to b (e ∷ es) = if e.buffer.0 == b then put_by e.kind e.value (sent_to b 
 -- the messages that entries took from buffer b, in order
 abbrev pub taken_from : ℕ → List Entry → List Message
 taken_from b [] = []
-taken_from b (e ∷ es) = if e.buffer.0 == b then taken_by e.kind e.value (taken_from b es) else taken_from b es
+taken_from b (e ∷ es) =
+    if e.buffer.0 == b then taken_by e.kind e.value (taken_from b es) else taken_from b es
 
 -- in each buffer: the messages sent are, in order, those received, followed by those left
 abbrev pub IsFirstInFirstOut : List Entry → List (List Message) → Type 0
@@ -38,4 +40,6 @@ IsFirstInFirstOut es left = (b : ℕ) → sent_to b es ≡ taken_from b es ++ it
 
 -- this holds of every legal sequential history
 abbrev pub TakenIsPut : Type 0
-TakenIsPut = (caps : List ℕ) (es : List Entry) (left : List (List Message)) → IsRun caps es left → IsFirstInFirstOut es left
+TakenIsPut =
+    (caps : List ℕ) (es : List Entry) (left : List (List Message)) → IsRun caps es left
+    → IsFirstInFirstOut es left

@@ -1,7 +1,9 @@
 -- The words log: Draws, Looks and Frees of ticket locks, newest first, and which such logs are
 -- legal. A Look is one poll of the word `serving`.
-use Rattle.std.specs.Prelude.{◌≡◌, ℕ, ◌%◌, ◌^◌, ◌<◌, Bool, false, List, [], ◌∷◌, ◌==◌, if◌then◌else◌}
-use Rattle.event_log.specs.declared.{ids.{CpuId.CpuId, LockId.LockId, TheConstants.CPUS}, events.Event.{Event, TheVariants.{Draw, Look, Free}}}
+use Rattle.std.specs.Prelude.{◌≡◌, ℕ, ◌%◌, ◌^◌, ◌<◌, Bool, false, List, [], ◌∷◌, ◌==◌}
+use Rattle.std.specs.Prelude.{if◌then◌else◌}
+use Rattle.event_log.specs.declared.ids.{CpuId.CpuId, LockId.LockId, TheConstants.CPUS}
+use Rattle.event_log.specs.declared.events.Event.{Event, TheVariants.{Draw, Look, Free}}
 use Rattle.event_log.specs.History.{same_cpu, same_lock, how_many, IsLawful}
 
 -- the CPU that acts
@@ -40,7 +42,8 @@ pub data LockPhase : Type 0 where
 -- where an event leaves the CPU that acts: a Look succeeds if it reads its ticket
 abbrev pub left_by : {M : Type 0} → Event M → LockPhase
 left_by (Draw cpu lock ticket) = Waiting lock ticket
-left_by (Look cpu lock ticket read) = if read == ticket then Holding lock ticket else Waiting lock ticket
+left_by (Look cpu lock ticket read) =
+    if read == ticket then Holding lock ticket else Waiting lock ticket
 left_by (Free cpu lock mark) = Idle
 
 -- where a CPU is, according to its newest event

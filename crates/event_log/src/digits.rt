@@ -38,7 +38,8 @@ pub fn leading_digits(text: &[u8]) -> (usize, u64)
     ensures inside { result.0 ≤ length text.now }
     ensures digits { all_ascii_digits (take result.0 text.now) ≡ true }
     ensures number { result.1 ≡ digits_value 10 (take result.0 text.now) }
-    ensures longest { result.0 < SHORT → result.0 < length text.now → is_ascii_digit (slice_index text.now result.0) ≡ false }
+    ensures longest { result.0 < SHORT → result.0 < length text.now
+        → is_ascii_digit (slice_index text.now result.0) ≡ false }
 {
     let most = text.len().min(SHORT);
     let mut number: u64 = 0;
@@ -107,5 +108,6 @@ pub fn number_to(text: &[u8], most: u64) -> Option<u64>
 #[tactic(auto, using(crate::proofs::DigitsLemmas::one_spelling))]
 pub fn number_has_one_spelling()
     ensures read_back { (most n : ℕ) → n < 2 ^ 64 → n ≤ most → number_to most (decimal n) ≡ Some n }
-    ensures only { (most n : ℕ) (text : List ℕ) → most < 2 ^ 64 → number_to most text ≡ Some n → text ≡ decimal n }
+    ensures only { (most n : ℕ) (text : List ℕ) → most < 2 ^ 64 → number_to most text ≡ Some n
+        → text ≡ decimal n }
 {}

@@ -1,9 +1,8 @@
 //! What holds of every legal log. Each law is the contract of a function that does nothing, so that
 //! the law is proved with the crate.
 
-ghost use Rattle.event_log.specs.{Forms.BothFormsAgree, Forms.LegalLogsGrow, Grants.GrantsTellSpots, Grants.OneInsideGrants};
-ghost use Rattle.event_log.specs.Laws.{FreedOnceMeanwhile, FreeWhereAllRest, GivenOnceMeanwhile, OneHolds};
-ghost use Rattle.event_log.specs.Laws.{OneInside, ThreeAreOneSection, TicketsTellSpots, WaitsForFew};
+ghost use Rattle.event_log.specs.{Forms.{BothFormsAgree, LegalLogsGrow}, Grants.{GrantsTellSpots, OneInsideGrants}, Laws.FreedOnceMeanwhile};
+ghost use Rattle.event_log.specs.Laws.{FreeWhereAllRest, GivenOnceMeanwhile, OneHolds, OneInside, ThreeAreOneSection, TicketsTellSpots, WaitsForFew};
 
 /// A words log, oldest first, is legal if each event may follow the events before it, however the
 /// log is split. The recursion on its history, newest first, says the same.

@@ -9,7 +9,8 @@ ghost use Rattle.event_log.specs.{Streams.TakenIsPut, Traces.HasOpOrder};
 /// that entry leaves.
 #[tactic(auto, using(crate::proofs::RunLemmas::run_more))]
 pub fn run_grows()
-    ensures { (caps : List ℕ) (es : List AnEntry) (left : List (List Message)) (e : AnEntry) → IsRun caps es left → IsNext caps es left e
+    ensures { (caps : List ℕ) (es : List AnEntry) (left : List (List Message)) (e : AnEntry)
+        → IsRun caps es left → IsNext caps es left e
         → IsRun caps (es ++ e ∷ []) (after_entry left e) }
 {}
 
@@ -18,18 +19,22 @@ pub fn run_grows()
 /// therefore the numbers of entries before it, of its buffer, and of its buffer and kind.
 #[tactic(auto, using(crate::proofs::RunLemmas::run_from_next))]
 pub fn run_by_index()
-    ensures runs { (caps : List ℕ) (es : List AnEntry) (left : List (List Message)) → IsRun caps es left
+    ensures runs { (caps : List ℕ) (es : List AnEntry) (left : List (List Message))
+        → IsRun caps es left
         → (left ≡ contents_after caps es)
-        × ((k : ℕ) (e : AnEntry) → slice_get es k ≡ Some e → IsNext caps (take k es) (contents_after caps (take k es)) e) }
+        × ((k : ℕ) (e : AnEntry) → slice_get es k ≡ Some e
+        → IsNext caps (take k es) (contents_after caps (take k es)) e) }
     ensures only { (caps : List ℕ) (es : List AnEntry)
-        → ((k : ℕ) (e : AnEntry) → slice_get es k ≡ Some e → IsNext caps (take k es) (contents_after caps (take k es)) e)
+        → ((k : ℕ) (e : AnEntry) → slice_get es k ≡ Some e
+        → IsNext caps (take k es) (contents_after caps (take k es)) e)
         → IsRun caps es (contents_after caps es) }
 {}
 
 /// A law: in a run the op numbers of each buffer are 0, 1, 2 and so on.
 #[tactic(auto, using(crate::proofs::RunLemmas::op_order_from))]
 pub fn run_has_op_order()
-    ensures { (caps : List ℕ) (es : List AnEntry) (left : List (List Message)) → IsRun caps es left → HasOpOrder es }
+    ensures { (caps : List ℕ) (es : List AnEntry) (left : List (List Message)) → IsRun caps es left
+        → HasOpOrder es }
 {}
 
 /// A law: in a run the messages sent to each buffer are, in order, those received from it, followed

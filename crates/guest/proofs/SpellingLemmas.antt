@@ -3,16 +3,15 @@ use Rattle.std.proofs.Common.{◌≡◌, ◌==◌, ℕ, ◌-◌, ◌<◌, ◌≤
 use Rattle.std.proofs.{Common.{codes, decimal, bytes_eq, ◌⊎◌, inl, inr, refl, sym, ◌∙◌, ap, subst, arith, lit<, ne_eqb}, lemmas.Bool.Decides.nat_tests}
 use Rattle.std.proofs.lemmas.{Bool.or_parts, Slice.Eq.bytes_eq-Decides, List.Splits.{slice_split_none, slice_split_at, join_with_byte-slice_split}}
 use Rattle.std.{proofs.lemmas.{List.Elements.{All-nil, All-cons, All-from_get_or}, Str.Parse.digit_at, Fmt.digits_decimal}, specs.List.slice_split}
-use Rattle.{std.specs.List.{join_with_byte, list_any}, event_log.specs.{declared.ids.{BufId.BufId, TheConstants.BUFFERS}, Digits.{is_number, number_to}}}
-use Rattle.event_log.{specs.Reading.{◌>>=◌}, proofs.DigitsLemmas.{ascii_digits, number_to-decimal, number_to-spelling, number_to-Some, decimal-spelled}}
-use Rattle.{event_log.proofs.DigitsLemmas.is_number-spelled, guest.specs.declared.instructions.{TheConstants.REGISTERS, Register.{Register, TheVariants.Reg0}}}
-use Rattle.guest.specs.declared.instructions.{Register.TheVariants.{Reg1, Reg2, Reg3, Reg4, Reg5, Reg6, Reg7}, Source.TheVariants.{One as FromOne, First}}
-use Rattle.guest.specs.declared.instructions.{Into.TheVariants.{One as IntoOne, All as IntoAll}, Instruction.{Instruction, TheVariants.{Set, Add, Sub, Jnz}}}
-use Rattle.guest.specs.declared.{instructions.Instruction.TheVariants.{Send, Recv, Close, Yield, Exit}, refusals.GuestFault.{GuestFault, TheVariants.BadNumber}}
-use Rattle.guest.specs.{declared.refusals.GuestFault.TheVariants.{BadTarget, UnknownWord}, Instructions.{IsSource, IsTarget, IsWithin}}
-use Rattle.guest.specs.Language.{or_fault, register_in}
-use Rattle.guest.specs.Language.{word_in, buffer_in, words_in, target_in, pieces_in, line_in, one_piece, two_pieces, three_pieces, four_pieces}
-use Rattle.guest.specs.Spelling.{register_name, target_of, pieces_of, instruction_line}
+use Rattle.std.specs.List.{join_with_byte, list_any}
+use Rattle.event_log.specs.{declared.ids.{BufId.BufId, TheConstants.BUFFERS}, Digits.{is_number, number_to}, Reading.{◌>>=◌}}
+use Rattle.event_log.proofs.DigitsLemmas.{ascii_digits, number_to-decimal, number_to-spelling, number_to-Some, decimal-spelled, is_number-spelled}
+use Rattle.guest.specs.declared.instructions.{TheConstants.REGISTERS, Register.{Register, TheVariants.{Reg0, Reg1, Reg2, Reg3, Reg4, Reg5, Reg6, Reg7}}}
+use Rattle.guest.specs.declared.instructions.{Source.TheVariants.{One as FromOne, First}, Into.TheVariants.{One as IntoOne, All as IntoAll}}
+use Rattle.guest.specs.declared.instructions.Instruction.{Instruction, TheVariants.{Set, Add, Sub, Jnz, Send, Recv, Close, Yield, Exit}}
+use Rattle.guest.specs.{declared.refusals.GuestFault.{GuestFault, TheVariants.{BadNumber, BadTarget, UnknownWord}}, Instructions.{IsSource, IsTarget, IsWithin}}
+use Rattle.guest.specs.Language.{or_fault, register_in, word_in, buffer_in, words_in, target_in, pieces_in, line_in, one_piece, two_pieces, three_pieces}
+use Rattle.guest.specs.{Language.four_pieces, Spelling.{register_name, target_of, pieces_of, instruction_line}}
 
 -- one word of a chain of words: what is read is that of this word, or is read from the words after
 -- it

@@ -1,8 +1,14 @@
 -- Registers by their numbers, and the instruction of a line.
-use Rattle.std.specs.Prelude.{ℕ, Bool, true, nat_lt, ◌<◌, ◌≤◌, ◌^◌, List, length, All, Option, Some, None, slice_get, unwrap_or}
-use Rattle.{event_log.specs.declared.ids.TheConstants.BUFFERS, guest.specs.declared.instructions.{TheConstants.REGISTERS, Register.Register}}
-use Rattle.guest.specs.declared.instructions.{Register.TheVariants.{Reg0, Reg1, Reg2, Reg3, Reg4, Reg5, Reg6, Reg7}, Source.{Source, TheVariants.{One, First}}}
-use Rattle.guest.specs.declared.instructions.Instruction.{Instruction, TheVariants.{Set, Add, Sub, Jnz, Send, Recv, Close, Yield, Exit}}
+use Rattle.std.specs.Prelude.{ℕ, Bool, true, nat_lt, ◌<◌, ◌≤◌, ◌^◌, List, length, All, Option, Some}
+use Rattle.std.specs.Prelude.{None, slice_get, unwrap_or}
+use Rattle.event_log.specs.declared.ids.TheConstants.{BUFFERS}
+use Rattle.guest.specs.declared.instructions.{TheConstants.REGISTERS, Register.Register}
+use Rattle.guest.specs.declared.instructions.Register.TheVariants.{Reg0, Reg1, Reg2, Reg3, Reg4}
+use Rattle.guest.specs.declared.instructions.Register.TheVariants.{Reg5, Reg6, Reg7}
+use Rattle.guest.specs.declared.instructions.Source.{Source, TheVariants.{One, First}}
+use Rattle.guest.specs.declared.instructions.Instruction.{Instruction, TheVariants.{Set, Add, Sub}}
+use Rattle.guest.specs.declared.instructions.Instruction.TheVariants.{Jnz, Send, Recv, Close, Yield}
+use Rattle.guest.specs.declared.instructions.Instruction.TheVariants.{Exit}
 
 -- a register's number
 abbrev pub number_of : Register → ℕ

@@ -1,13 +1,22 @@
 -- The guest language: which line is which instruction, and the first fault of a line and of a
 -- program.
-use Rattle.std.specs.Prelude.{◌≡◌, ℕ, ◌==◌, ◌-◌, List, [], ◌∷◌, length, codes, bytes_eq, nat_lt, Option, Some, None, Result, Ok, Err, if◌then◌else◌}
+use Rattle.std.specs.Prelude.{◌≡◌, ℕ, ◌==◌, ◌-◌, List, [], ◌∷◌, length, codes, bytes_eq, nat_lt}
+use Rattle.std.specs.Prelude.{Option, Some, None, Result, Ok, Err, if◌then◌else◌}
 use Rattle.std.specs.List.{slice_split}
-use Rattle.event_log.specs.{declared.ids.{BufId.BufId, TheConstants.BUFFERS}, Digits.{is_number, number_to}, Reading.{◌>>=◌, read_from}}
-use Rattle.guest.specs.declared.instructions.{TheConstants.REGISTERS, Register.{Register, TheVariants.{Reg0, Reg1, Reg2, Reg3, Reg4, Reg5, Reg6, Reg7}}}
-use Rattle.guest.specs.declared.instructions.{Source.TheVariants.{One as FromOne, First}, Into.TheVariants.{One as IntoOne, All}, Instruction.Instruction}
-use Rattle.guest.specs.declared.{instructions.Instruction.TheVariants.{Set, Add, Sub, Jnz, Send, Recv, Close, Yield, Exit}, refusals.GuestFault.GuestFault}
-use Rattle.guest.specs.declared.refusals.{GuestFault.TheVariants.{UnknownWord, BadRegister, BadNumber, BadTarget, TooLong, Empty}, GuestError.GuestError}
-use Rattle.guest.specs.declared.refusals.GuestError.TheVariants.{NoMemory, At}
+use Rattle.event_log.specs.{declared.ids.{BufId.BufId, TheConstants.BUFFERS}, Digits.is_number}
+use Rattle.event_log.specs.{Digits.number_to, Reading.{◌>>=◌, read_from}}
+use Rattle.guest.specs.declared.instructions.{TheConstants.REGISTERS, Register.Register}
+use Rattle.guest.specs.declared.instructions.Register.TheVariants.{Reg0, Reg1, Reg2, Reg3, Reg4}
+use Rattle.guest.specs.declared.instructions.Register.TheVariants.{Reg5, Reg6, Reg7}
+use Rattle.guest.specs.declared.instructions.Source.TheVariants.{One as FromOne, First}
+use Rattle.guest.specs.declared.instructions.Into.TheVariants.{One as IntoOne, All}
+use Rattle.guest.specs.declared.instructions.Instruction.{Instruction, TheVariants.{Set, Add, Sub}}
+use Rattle.guest.specs.declared.instructions.Instruction.TheVariants.{Jnz, Send, Recv, Close, Yield}
+use Rattle.guest.specs.declared.instructions.Instruction.TheVariants.{Exit}
+use Rattle.guest.specs.declared.refusals.GuestFault.{GuestFault, TheVariants.UnknownWord}
+use Rattle.guest.specs.declared.refusals.GuestFault.TheVariants.{BadRegister, BadNumber, BadTarget}
+use Rattle.guest.specs.declared.refusals.GuestFault.TheVariants.{TooLong, Empty}
+use Rattle.guest.specs.declared.refusals.GuestError.{GuestError, TheVariants.{NoMemory, At}}
 
 -- the value, if there is one, otherwise this fault
 abbrev pub or_fault : {A : Type 0} → GuestFault → Option A → Result A GuestFault
@@ -38,11 +47,13 @@ buffer_in piece = or_fault BadNumber (number_to (BUFFERS - 1) piece) >>= λ b. O
 -- how many words a message has, as a piece spells it: at least one, and no more than there are
 -- registers
 unfoldable pub words_in : List ℕ → Result ℕ GuestFault
-words_in piece = or_fault BadNumber (number_to REGISTERS piece) >>= λ n. if n == 0 then Err BadNumber else Ok n
+words_in piece =
+    or_fault BadNumber (number_to REGISTERS piece) >>= λ n. if n == 0 then Err BadNumber else Ok n
 
 -- the line that a piece spells, of so many
 unfoldable pub target_in : ℕ → List ℕ → Result ℕ GuestFault
-target_in count piece = if is_number piece then or_fault BadTarget (number_to (count - 1) piece) else Err BadNumber
+target_in count piece =
+    if is_number piece then or_fault BadTarget (number_to (count - 1) piece) else Err BadNumber
 
 -- the instruction of one piece
 unfoldable pub one_piece : List ℕ → Result Instruction GuestFault
@@ -62,21 +73,34 @@ two_pieces word a =
 unfoldable pub three_pieces : ℕ → List ℕ → List ℕ → List ℕ → Result Instruction GuestFault
 three_pieces count word a b =
     if bytes_eq word (codes "set") then (register_in a >>= λ d. word_in b >>= λ n. Ok (Set d n))
-    else if bytes_eq word (codes "add") then (register_in a >>= λ d. register_in b >>= λ s. Ok (Add d s))
-    else if bytes_eq word (codes "sub") then (register_in a >>= λ d. register_in b >>= λ s. Ok (Sub d s))
-    else if bytes_eq word (codes "jnz") then (register_in a >>= λ s. target_in count b >>= λ k. Ok (Jnz s k))
-    else if bytes_eq word (codes "send") then (buffer_in a >>= λ n. register_in b >>= λ s. Ok (Send n (FromOne s) None))
-    else if bytes_eq word (codes "recv") then (buffer_in a >>= λ n. register_in b >>= λ d. Ok (Recv n (IntoOne d) None))
-    else if bytes_eq word (codes "sendm") then (buffer_in a >>= λ n. words_in b >>= λ m. Ok (Send n (First m) None))
-    else if bytes_eq word (codes "recvm") then (buffer_in a >>= λ n. target_in count b >>= λ k. Ok (Recv n All (Some k)))
+    else if bytes_eq word (codes "add")
+    then (register_in a >>= λ d. register_in b >>= λ s. Ok (Add d s))
+    else if bytes_eq word (codes "sub")
+    then (register_in a >>= λ d. register_in b >>= λ s. Ok (Sub d s))
+    else if bytes_eq word (codes "jnz")
+    then (register_in a >>= λ s. target_in count b >>= λ k. Ok (Jnz s k))
+    else if bytes_eq word (codes "send")
+    then (buffer_in a >>= λ n. register_in b >>= λ s. Ok (Send n (FromOne s) None))
+    else if bytes_eq word (codes "recv")
+    then (buffer_in a >>= λ n. register_in b >>= λ d. Ok (Recv n (IntoOne d) None))
+    else if bytes_eq word (codes "sendm")
+    then (buffer_in a >>= λ n. words_in b >>= λ m. Ok (Send n (First m) None))
+    else if bytes_eq word (codes "recvm")
+    then (buffer_in a >>= λ n. target_in count b >>= λ k. Ok (Recv n All (Some k)))
     else Err UnknownWord
 
 -- the instruction of four pieces, of a program of so many lines
 unfoldable pub four_pieces : ℕ → List ℕ → List ℕ → List ℕ → List ℕ → Result Instruction GuestFault
 four_pieces count word a b c =
-    if bytes_eq word (codes "send") then (buffer_in a >>= λ n. register_in b >>= λ s. target_in count c >>= λ k. Ok (Send n (FromOne s) (Some k)))
-    else if bytes_eq word (codes "recv") then (buffer_in a >>= λ n. register_in b >>= λ d. target_in count c >>= λ k. Ok (Recv n (IntoOne d) (Some k)))
-    else if bytes_eq word (codes "sendm") then (buffer_in a >>= λ n. words_in b >>= λ m. target_in count c >>= λ k. Ok (Send n (First m) (Some k)))
+    if bytes_eq word (codes "send")
+    then (buffer_in a >>= λ n. register_in b >>= λ s. target_in count c >>= λ k. Ok
+    (Send n (FromOne s) (Some k)))
+    else if bytes_eq word (codes "recv")
+    then (buffer_in a >>= λ n. register_in b >>= λ d. target_in count c >>= λ k. Ok
+    (Recv n (IntoOne d) (Some k)))
+    else if bytes_eq word (codes "sendm")
+    then (buffer_in a >>= λ n. words_in b >>= λ m. target_in count c >>= λ k. Ok
+    (Send n (First m) (Some k)))
     else Err UnknownWord
 
 -- the instruction of a line's pieces: their number is tested first
@@ -119,6 +143,7 @@ FaultsAs (At line fault) ghost_of = ghost_of ≡ Err (At line fault)
 
 -- a call returns the intended value, as it is viewed, or the intended fault; out of memory is the
 -- exception
-abbrev pub GivesOrFaults : {X Y : Type 0} → (X → Y) → Result X GuestError → Result Y GuestError → Type 0
+abbrev pub GivesOrFaults : {X Y : Type 0} → (X → Y) → Result X GuestError → Result Y GuestError
+    → Type 0
 GivesOrFaults view (Ok x) ghost_of = ghost_of ≡ Ok (view x)
 GivesOrFaults view (Err e) ghost_of = FaultsAs e ghost_of

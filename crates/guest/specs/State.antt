@@ -1,9 +1,14 @@
 -- A thread's private state, and what each instruction makes of it.
-use Rattle.std.specs.Prelude.{ℕ, ◌+◌, ◌-◌, ◌^◌, ◌%◌, ◌==◌, List, [], ◌∷◌, take, replicate, Option, Some, None, slice_index, slice_set, if◌then◌else◌}
-use Rattle.{event_log.specs.Messages.{Message, first_word, padded}, guest.specs.declared.instructions.{TheConstants.REGISTERS, Register.Register}}
-use Rattle.guest.specs.declared.instructions.{Source.{Source, TheVariants.{One as FromOne, First}}, Into.{Into, TheVariants.{One as IntoOne, All}}}
-use Rattle.guest.specs.declared.instructions.Instruction.{Instruction, TheVariants.{Set, Add, Sub, Jnz, Send, Recv, Close, Yield, Exit}}
-use Rattle.guest.specs.Instructions.{number_of, instruction_at}
+use Rattle.std.specs.Prelude.{ℕ, ◌+◌, ◌-◌, ◌^◌, ◌%◌, ◌==◌, List, [], ◌∷◌, take, replicate, Option}
+use Rattle.std.specs.Prelude.{Some, None, slice_index, slice_set, if◌then◌else◌}
+use Rattle.event_log.specs.Messages.{Message, first_word, padded}
+use Rattle.guest.specs.declared.instructions.{TheConstants.REGISTERS, Register.Register}
+use Rattle.guest.specs.declared.instructions.Source.{Source, TheVariants.{One as FromOne, First}}
+use Rattle.guest.specs.declared.instructions.Into.{Into, TheVariants.{One as IntoOne, All}}
+use Rattle.guest.specs.declared.instructions.Instruction.{Instruction, TheVariants.{Set, Add, Sub}}
+use Rattle.guest.specs.declared.instructions.Instruction.TheVariants.{Jnz, Send, Recv, Close, Yield}
+use Rattle.guest.specs.{declared.instructions.Instruction.TheVariants.Exit, Instructions.number_of}
+use Rattle.guest.specs.Instructions.{instruction_at}
 
 -- the line of a thread, and its registers by number
 pub record State : Type 0 where
@@ -61,7 +66,8 @@ wrapped_difference a b = (a + 2 ^ 64 - b) % 2 ^ 64
 abbrev pub after_local : Instruction → State → State
 after_local (Set r n) s = moved_with s r n
 after_local (Add r q) s = moved_with s r (wrapped_sum (register_value s r) (register_value s q))
-after_local (Sub r q) s = moved_with s r (wrapped_difference (register_value s r) (register_value s q))
+after_local (Sub r q) s =
+    moved_with s r (wrapped_difference (register_value s r) (register_value s q))
 after_local (Jnz r k) s = if register_value s r == 0 then moved_on s else moved_to s k
 after_local (Send b from k) s = s
 after_local (Recv b into k) s = s

@@ -40,7 +40,8 @@ impl Program {
     /// taken from left to right. `NoMemory` if an allocation failed.
     #[tactic(auto, unfolding(crate::specs::Language::program_in))]
     pub fn read(alloc: Global, lines: &[&str]) -> Result<Program, GuestError>
-        ensures read { GivesOrFaults (λ program. program) result (program_in (map (λ line. line.now) lines.now)) }
+        ensures read { GivesOrFaults (λ program. program) result
+            (program_in (map (λ line. line.now) lines.now)) }
         ensures within { IfOk result IsProgram }
     {
         if lines.is_empty() {

@@ -198,7 +198,8 @@ fn line_at(alloc: Global, text: &str, count: usize, line: usize) -> Result<Instr
 /// `NoMemory` if an allocation failed. Then nothing was made.
 pub fn instructions_in(alloc: Global, lines: &[&str]) -> Result<Vec<Instruction>, GuestError>
     requires { 0 < length lines.now }
-    ensures instructions { GivesOrFaults (λ read. read.items) result (program_lines (map (λ line. line.now) lines.now)) }
+    ensures instructions { GivesOrFaults (λ read. read.items) result
+        (program_lines (map (λ line. line.now) lines.now)) }
     ensures len { IfOk result (λ read. length read.items ≡ length lines.now) }
     ensures within { IfOk result (λ read. All (IsWithin (length lines.now)) read.items) }
 {

@@ -1,7 +1,9 @@
 -- The threads of a machine, as its parts observe them.
 use Rattle.std.specs.Prelude.{◌≡◌, ℕ, ◌<◌, List, Option, Some}
-use Rattle.{event_log.specs.declared.ids.{BufId.BufId, CpuId.CpuId, Tid.Tid}, layer_traits.specs.declared.moves.WaitList.WaitList}
-use Rattle.layer_traits.specs.{Layers.IpcLaw.WaitListsAgree, Threads.Places.{AreMoves, Stands, Step, Threads, home_of, pending_by}, Views.Observed.IsObservedAs}
+use Rattle.event_log.specs.declared.ids.{BufId.BufId, CpuId.CpuId, Tid.Tid}
+use Rattle.layer_traits.specs.{declared.moves.WaitList.WaitList, Layers.IpcLaw.WaitListsAgree}
+use Rattle.layer_traits.specs.Threads.Places.{AreMoves, Stands, Step, Threads, home_of, pending_by}
+use Rattle.layer_traits.specs.Views.Observed.{IsObservedAs}
 
 -- The threads of a machine as its parts observe them: how they moved, in which wait lists they
 -- sleep, and the scheduling state of each part's CPU. What the machine and each part report of
@@ -24,4 +26,6 @@ pub record Watched (P : Type 0) : Type 1 where
   pub stands : (q : P) → Fits q → Stands homes (cpu_of q) moves (own q)
   pub queues : (t : Tid) (d : CpuId) → home_of homes t ≡ Some d
       → IsObservedAs Fits cpu_of IsInside (λ q. queue_with q d) (queue_at d) (pending_by moves d)
-  pub waiters_law : (b : BufId) → b.0 < n → IsObservedAs Fits cpu_of IsInside (λ q. wait_lists_with q b) (wait_lists_at b) (wait_lists b)
+  pub waiters_law : (b : BufId) → b.0 < n
+      → IsObservedAs Fits cpu_of IsInside (λ q. wait_lists_with q b) (wait_lists_at b)
+      (wait_lists b)

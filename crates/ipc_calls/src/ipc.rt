@@ -236,7 +236,8 @@ impl<B: OwnedBuffers> Ipc<B> {
     fn wait_list(&self, m: &B::Machine, buffer: BufId, t: Tid) -> Option<WaitList>
         requires acts { (c : CpuId) × B.ActsFor m.now c }
         requires buffer { buffer.0 < length (caps_in (B.opening m.now)) }
-        ensures { result ≡ wait_list_read t (B.wait_lists_at m.now buffer) (B.wait_lists_with self.now.lower buffer) }
+        ensures { result ≡ wait_list_read t (B.wait_lists_at m.now buffer)
+            (B.wait_lists_with self.now.lower buffer) }
     {
         match B::wait_list_in(m, buffer, t) {
             Some(wait_list) => Some(wait_list),
@@ -250,9 +251,12 @@ impl<B: OwnedBuffers> Ipc<B> {
         requires acts { (c : CpuId) × B.ActsFor m.now c }
         requires count { length (caps_in (B.opening m.now)) ≡ self.now.buffers }
         ensures within { (x : _) → result ≡ Some x → x.0.0 < length (caps_in (B.opening m.now)) }
-        ensures found { (x : _) → result ≡ Some x → wait_list_read t (B.wait_lists_at m.now x.0) (B.wait_lists_with self.now.lower x.0) ≡ Some x.1 }
+        ensures found { (x : _) → result ≡ Some x
+            → wait_list_read t (B.wait_lists_at m.now x.0) (B.wait_lists_with self.now.lower x.0)
+            ≡ Some x.1 }
         ensures none { result ≡ None → (b : BufId) → b.0 < length (caps_in (B.opening m.now))
-            → wait_list_read t (B.wait_lists_at m.now b) (B.wait_lists_with self.now.lower b) ≡ None }
+            → wait_list_read t (B.wait_lists_at m.now b) (B.wait_lists_with self.now.lower b)
+            ≡ None }
     {
         for number in 0..self.buffers {
             let buffer = BufId(number);

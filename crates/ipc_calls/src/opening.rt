@@ -37,9 +37,12 @@ pub trait OpensBuffers: OwnedBuffers {
     ) -> Result<Self::Machine, NoMemory>
         requires { AreOpenable cpus caps.now homes.now }
         ensures opened { IfOk result (λ m.
-            Opened (caps_in (Self.opening m)) (homes_in (Self.opening m)) (Self.seen m) (Self.moves m) (Self.room m) caps.now homes.now room) }
-        ensures boot { IfOk result (λ m. inner (Self.opening m) ≡ opening_locks (caps_in (Self.opening m))) }
-        ensures queues { IfOk result (λ m. (c : CpuId) → c.0 < cpus → IsSome (Self.opening m (Pending c))) }
+            Opened (caps_in (Self.opening m)) (homes_in (Self.opening m)) (Self.seen m)
+            (Self.moves m) (Self.room m) caps.now homes.now room) }
+        ensures boot { IfOk result
+            (λ m. inner (Self.opening m) ≡ opening_locks (caps_in (Self.opening m))) }
+        ensures queues { IfOk result
+            (λ m. (c : CpuId) → c.0 < cpus → IsSome (Self.opening m (Pending c))) }
         ensures fresh { IfOk result (λ m. (c : CpuId) → c.0 < cpus → Self.IsFresh m homes.now c) }
         ensures acts { IfOk result (λ m. (c : CpuId) → c.0 < CPUS → Self.ActsFor m c) }
         ensures none { IfOk result (λ m. Self.acts m ≡ []) }
@@ -70,8 +73,11 @@ pub trait OpensQueues: OwnedLayer<QueueLaw<SleepEdit<LockEdit>>> {
         ensures seen { IfOk result (λ m. Self.seen m ≡ []) }
         ensures room { IfOk result (λ m. room ≤ Self.room m) }
         ensures homes { IfOk result (λ m. homes_in (Self.opening m) ≡ homes.now) }
-        ensures queues { IfOk result (λ m. (c : CpuId) → c.0 < cpus → IsSome (Self.opening m (Pending c))) }
-        ensures locks { IfOk result (λ m. inner (viewed nested_lock_of (viewed state_of (Self.opening m))) ≡ opening_locks caps.now) }
+        ensures queues { IfOk result
+            (λ m. (c : CpuId) → c.0 < cpus → IsSome (Self.opening m (Pending c))) }
+        ensures locks { IfOk result
+            (λ m. inner (viewed nested_lock_of (viewed state_of (Self.opening m)))
+            ≡ opening_locks caps.now) }
         ensures acts { IfOk result (λ m. (c : CpuId) → c.0 < CPUS → Self.ActsFor m c) }
         ensures outside { IfOk result (λ m. (c : CpuId) → Self.IsOutside m c) }
         ensures none { IfOk result (λ m. Self.acts m ≡ []) }
@@ -102,8 +108,11 @@ pub trait OpensScheds: OwnedLayer<SchedLaw<SleepEdit<LockEdit>>> {
         ensures seen { IfOk result (λ m. Self.seen m ≡ []) }
         ensures room { IfOk result (λ m. room ≤ Self.room m) }
         ensures homes { IfOk result (λ m. homes_in (Self.opening m) ≡ homes.now) }
-        ensures queues { IfOk result (λ m. (c : CpuId) → c.0 < cpus → IsSome (Self.opening m (Pending c))) }
-        ensures locks { IfOk result (λ m. inner (viewed nested_lock_of (viewed state_of (Self.opening m))) ≡ opening_locks caps.now) }
+        ensures queues { IfOk result
+            (λ m. (c : CpuId) → c.0 < cpus → IsSome (Self.opening m (Pending c))) }
+        ensures locks { IfOk result
+            (λ m. inner (viewed nested_lock_of (viewed state_of (Self.opening m)))
+            ≡ opening_locks caps.now) }
         ensures acts { IfOk result (λ m. (c : CpuId) → c.0 < CPUS → Self.ActsFor m c) }
         ensures outside { IfOk result (λ m. (c : CpuId) → Self.IsOutside m c) }
         ensures none { IfOk result (λ m. Self.acts m ≡ []) }
@@ -136,8 +145,10 @@ pub trait OpensLocks: OwnedThreadLayer<SleepLaw<LockEdit>> {
         ensures seen { IfOk result (λ m. Self.seen m ≡ []) }
         ensures room { IfOk result (λ m. room ≤ Self.room m) }
         ensures homes { IfOk result (λ m. homes_in (Self.opening m) ≡ homes.now) }
-        ensures queues { IfOk result (λ m. (c : CpuId) → c.0 < cpus → IsSome (Self.opening m (Pending c))) }
-        ensures locks { IfOk result (λ m. inner (viewed nested_lock_of (Self.opening m)) ≡ opening_locks caps.now) }
+        ensures queues { IfOk result
+            (λ m. (c : CpuId) → c.0 < cpus → IsSome (Self.opening m (Pending c))) }
+        ensures locks { IfOk result
+            (λ m. inner (viewed nested_lock_of (Self.opening m)) ≡ opening_locks caps.now) }
         ensures acts { IfOk result (λ m. (c : CpuId) → c.0 < CPUS → Self.ActsFor m c) }
         ensures outside { IfOk result (λ m. (c : CpuId) → Self.IsOutside m c) }
         ensures none { IfOk result (λ m. Self.acts m ≡ []) }

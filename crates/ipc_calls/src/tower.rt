@@ -84,8 +84,11 @@ pub fn tower_blocks(
     ensures distinct { IfOk result (λ locks. AreDistinct locks.items) }
     ensures starts { IfOk result (λ locks. StartsWell (opened locks.items)) }
     ensures homes { IfOk result (λ locks. homes_in (opened locks.items) ≡ homes.now) }
-    ensures queues { IfOk result (λ locks. (c : CpuId) → c.0 < cpus → IsSome (opened locks.items (Pending c))) }
-    ensures locks { IfOk result (λ locks. inner (viewed nested_lock_of (viewed state_of (opened locks.items))) ≡ opening_locks caps.now) }
+    ensures queues { IfOk result
+        (λ locks. (c : CpuId) → c.0 < cpus → IsSome (opened locks.items (Pending c))) }
+    ensures locks { IfOk result
+        (λ locks. inner (viewed nested_lock_of (viewed state_of (opened locks.items)))
+        ≡ opening_locks caps.now) }
 {
     let buffers = empty_blocks(alloc, caps)?;
     let blocks = sleep_blocks(alloc, lock_blocks(alloc, buffers)?)?;
@@ -113,10 +116,12 @@ pub fn part_over<L: Layer<LockLaw<TowerEdit>>>(
     requires starts { StartsWell (L.opening m.now) }
     requires homes { homes_in (L.opening m.now) ≡ homes.now }
     requires queue { IsSome (L.opening m.now (Pending cpu)) }
-    requires locks { inner (viewed nested_lock_of (viewed state_of (L.opening m.now))) ≡ opening_locks caps.now }
+    requires locks { inner (viewed nested_lock_of (viewed state_of (L.opening m.now)))
+        ≡ opening_locks caps.now }
     ensures cpu { ⟦<Ipc<TowerOver<L>> as CallLayer<IpcLaw>>⟧.cpu_of result ≡ cpu }
     ensures under_way { ⟦<Ipc<TowerOver<L>> as CallLayer<IpcLaw>>⟧.under_way result ≡ None }
-    ensures call_states { (⟦<Ipc<TowerOver<L>> as CallLayer<IpcLaw>>⟧.own result).call_states ≡ replicate THREADS no_call }
+    ensures call_states { (⟦<Ipc<TowerOver<L>> as CallLayer<IpcLaw>>⟧.own result).call_states
+        ≡ replicate THREADS no_call }
     ensures fits { ⟦<Ipc<TowerOver<L>> as CallLayer<IpcLaw>>⟧.Fits result m.now }
 {
     let _ = m;

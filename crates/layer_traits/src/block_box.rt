@@ -52,7 +52,8 @@ pub fn edit_in_box<E: SplitEdit>(
     payload: &mut Payload,
 ) -> E::Brought
     ensures block { boxed.new ≡ E.rules.edited (E.meant handed.now payload.old) boxed.old }
-    ensures answer { E.told result payload.new ≡ E.rules.answer (E.meant handed.now payload.old) boxed.old }
+    ensures answer { E.told result payload.new
+        ≡ E.rules.answer (E.meant handed.now payload.old) boxed.old }
 {
     E::apply_handed(handed, &mut boxed.content, payload)
 }

@@ -132,7 +132,8 @@ impl BufferBlock {
     /// buffer takes no message, and the result says so.
     fn put(&mut self, t: Tid, parcel: &mut Parcel) -> BareBufferOut
         ensures block { self.new ≡ buffer_edited (TryPut t parcel.old.message) self.old }
-        ensures answer { buffer_told result parcel.new ≡ buffer_answer (TryPut t parcel.old.message) self.old }
+        ensures answer { buffer_told result parcel.new
+            ≡ buffer_answer (TryPut t parcel.old.message) self.old }
     {
         if !leads(&self.send_line, t) {
             return BareBufferOut::NotYet;

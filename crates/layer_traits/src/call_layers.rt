@@ -106,7 +106,8 @@ pub trait CallLayer<L: CallLaw>: Sized {
         ensures cpu { cpu_of result ≡ cpu }
         ensures under_way { under_way result ≡ None }
         ensures own { own result ≡ buffering_at_start homes.now cpu }
-        ensures fits { (m : Self.Machine) → IsFresh m homes.now cpu → L.IsCount (caps_in (opening m)) buffers → Fits result m };
+        ensures fits { (m : Self.Machine) → IsFresh m homes.now cpu
+            → L.IsCount (caps_in (opening m)) buffers → Fits result m };
 
     /// Returns whether a section is under way.
     fn is_busy(&self) -> bool
@@ -165,7 +166,8 @@ pub trait CallLayer<L: CallLaw>: Sized {
     fn look(&mut self, m: &mut Self::Machine) -> bool
         requires fits { Fits self.old m.old }
         requires room { 0 < room m.old }
-        ensures { Looked Fits cpu_of opening site room ActsFor MayHold own is_inside under_way seen moves acts
+        ensures { Looked Fits cpu_of opening site room ActsFor MayHold own is_inside under_way seen
+            moves acts
             IsWhole IsStepwise L.plan result self.old m.old self.new m.new };
 
     /// Polls the lock again for a section that waits at it, at most twice: the second poll follows
@@ -183,7 +185,8 @@ pub trait CallLayer<L: CallLaw>: Sized {
         ensures few { taken.new ≤ most }
         ensures ends { result ≡ true → (taken.new ≡ most) ⊎ (taken.new ≡ taken.old + 2) }
         ensures goes_on { result ≡ false → (taken.new < most) × (taken.new < taken.old + 2) }
-        ensures looked_on { LookedOn Fits cpu_of opening site room ActsFor MayHold own is_inside under_way seen moves acts
+        ensures looked_on { LookedOn Fits cpu_of opening site room ActsFor MayHold own is_inside
+            under_way seen moves acts
             IsWhole IsStepwise L.plan self.old m.old taken.old taken.new self.new m.new };
 
     /// Records failed polls of a section that waits at its lock, as long as a poll would fail. It
@@ -222,8 +225,10 @@ pub trait CallLayer<L: CallLaw>: Sized {
         requires hand { under_way self.old ≡ None → (threads_in (own self.old)).hand ≡ None }
         requires same { MayPollCall (call_state_of (own self.old).call_states t) call.now }
         requires goes_on { MayGoOn (under_way self.old) (Calling t) }
-        ensures { Polled Fits cpu_of opening site room ActsFor MayHold own is_inside under_way seen moves acts
-            IsWhole IsStepwise L.plan t call.now self.old m.old self.new m.new (answer_in (own self.new).call_states t result) };
+        ensures { Polled Fits cpu_of opening site room ActsFor MayHold own is_inside under_way seen
+            moves acts
+            IsWhole IsStepwise L.plan t call.now self.old m.old self.new m.new
+            (answer_in (own self.new).call_states t result) };
 
     /// Performs up to `most` actions of the call of `t`, one after the other. The first is a poll
     /// of the call, and each later one a poll of the call or of its section's lock. It continues at
@@ -243,8 +248,10 @@ pub trait CallLayer<L: CallLaw>: Sized {
         requires same { MayPollCall (call_state_of (own self.old).call_states t) call.now }
         requires goes_on { MayGoOn (under_way self.old) (Calling t) }
         ensures few { result.actions ≤ most }
-        ensures polled_on { PolledOn Fits cpu_of opening site room ActsFor MayHold own is_inside under_way seen moves acts
-            IsWhole IsStepwise L.plan t call.now self.old m.old result.actions self.new m.new result.reply }
+        ensures polled_on { PolledOn Fits cpu_of opening site room ActsFor MayHold own is_inside
+            under_way seen moves acts
+            IsWhole IsStepwise L.plan t call.now self.old m.old result.actions self.new m.new
+            result.reply }
     {
         PollRun {
             actions: 1,
@@ -264,7 +271,8 @@ pub trait CallLayer<L: CallLaw>: Sized {
         requires hand { under_way self.old ≡ None → (threads_in (own self.old)).hand ≡ None }
         requires same { MayPollCall (call_state_of (own self.old).call_states t) call.now }
         requires goes_on { MayGoOn (under_way self.old) (Calling t) }
-        ensures { Polled Fits cpu_of opening site room ActsFor MayHold own is_inside under_way seen moves acts
+        ensures { Polled Fits cpu_of opening site room ActsFor MayHold own is_inside under_way seen
+            moves acts
             IsWhole IsStepwise L.plan t call.now self.old m.old self.new m.new result }
     {
         match self.poll_kind(m, t, call) {
@@ -283,16 +291,20 @@ pub trait CallLayer<L: CallLaw>: Sized {
         requires may { MayPass call (threads_in (own self.old)) }
         requires goes_on { MayGoOn (under_way self.old) (Passing call) }
         ensures seen { OthersSeen (ActsFor m.old) (seen m.old) (seen m.new) }
-        ensures passed { PassPolled (homes_in (opening m.old)) (ActsFor m.old) (cpu_of self.old) call result (moves m.old) (moves m.new)
+        ensures passed { PassPolled (homes_in (opening m.old)) (ActsFor m.old) (cpu_of self.old)
+            call result (moves m.old) (moves m.new)
             (threads_in (own self.old)) (threads_in (own self.new)) }
         ensures under_way { under_way self.new ≡ still_passing call result }
         ensures call_states { (own self.new).call_states ≡ (own self.old).call_states }
         ensures still { IsLocalPass call → m.new ≡ m.old }
         ensures prompt { IsWhole → IsSome result }
-        ensures framed { Framed Fits cpu_of opening site room ActsFor MayHold self.old self.new m.old m.new }
+        ensures framed { Framed Fits cpu_of opening site room ActsFor MayHold self.old self.new
+            m.old m.new }
         ensures follows { IsStepwise
-            → Follows (ActsFor m.old) (table_of (queue_rules (lock_rules buffer_rules) (lock_moves buffer_rules)))
-            (opening m.old) (cpu_of self.old) (fifo_pass_plan (homes_in (opening m.old)) (cpu_of self.old) call (own self.old))
+            → Follows (ActsFor m.old)
+            (table_of (queue_rules (lock_rules buffer_rules) (lock_moves buffer_rules)))
+            (opening m.old) (cpu_of self.old)
+            (fifo_pass_plan (homes_in (opening m.old)) (cpu_of self.old) call (own self.old))
             (acts m.old) (acts m.new) (record { own = own self.new; answer = result }) };
 
     /// Law: a part that agrees with a machine is of a CPU for which the machine's holder acts.

@@ -84,7 +84,8 @@ pub trait Guarded: Sized + Drop {
         parcel: &mut Parcel,
     ) -> Self::Brought
         ensures block { block.new ≡ monitor_rules.edited (meant handed.now parcel.old) block.old }
-        ensures answer { told result parcel.new ≡ monitor_rules.answer (meant handed.now parcel.old) block.old };
+        ensures answer { told result parcel.new
+            ≡ monitor_rules.answer (meant handed.now parcel.old) block.old };
 
     /// Returns the thread at the head of this side's queue, if it may proceed.
     fn ready(side: Side, block: &Self::Block) -> Option<Tid>

@@ -54,7 +54,8 @@ pub trait SplitEdit: Sized + Drop {
         payload: &mut Payload,
     ) -> Self::Brought
         ensures block { block.new ≡ rules.edited (meant handed.now payload.old) block.old }
-        ensures answer { told result payload.new ≡ rules.answer (meant handed.now payload.old) block.old };
+        ensures answer { told result payload.new
+            ≡ rules.answer (meant handed.now payload.old) block.old };
 }
 
 /// A pure edit of a lock's block, as one value: it can be copied, holds what it puts, and its

@@ -59,7 +59,8 @@ pub trait GrantWords {
         requires lock { IsSome (opening self.old lock) }
         requires room { 0 < room self.old }
         requires outside { grant_lock_phase cpu (seen self.old) ≡ Idle }
-        ensures adds { Adds (ActsFor self.old) cpu_of_grant (Take cpu lock result) (seen self.old) (seen self.new) }
+        ensures adds { Adds (ActsFor self.old) cpu_of_grant (Take cpu lock result) (seen self.old)
+            (seen self.new) }
         ensures opening { opening self.new ≡ opening self.old }
         ensures site { site self.new ≡ site self.old }
         ensures room { room self.old ≤ room self.new + 1 }
@@ -80,11 +81,14 @@ pub trait GrantWords {
         requires lock { IsSome (opening self.old lock) }
         requires room { 0 < room self.old }
         requires waiting { grant_lock_phase cpu (seen self.old) ≡ Waiting lock ticket }
-        ensures adds { (read : ℕ) × Adds (ActsFor self.old) cpu_of_grant (Peek cpu lock ticket read) (seen self.old) (seen self.new) }
+        ensures adds { (read : ℕ)
+            × Adds (ActsFor self.old) cpu_of_grant (Peek cpu lock ticket read) (seen self.old)
+            (seen self.new) }
         ensures hits { MatchOption result
             (grant_lock_phase cpu (seen self.new) ≡ Waiting lock ticket)
             (λ block. (grant_lock_phase cpu (seen self.new) ≡ Holding lock ticket)
-            × (block_after Self.Edit.rules.edited (opening self.new) lock (grant_sections (seen self.new)) ≡ Some block)) }
+            × (block_after Self.Edit.rules.edited (opening self.new) lock
+            (grant_sections (seen self.new)) ≡ Some block)) }
         ensures opening { opening self.new ≡ opening self.old }
         ensures site { site self.new ≡ site self.old }
         ensures room { room self.old ≤ room self.new + 1 }
@@ -105,7 +109,8 @@ pub trait GrantWords {
         requires waiting { grant_lock_phase cpu (seen self.old) ≡ Waiting lock ticket }
         ensures few { BeginWith cpu result steps.now }
         ensures still { result ≡ 0 → self.new ≡ self.old }
-        ensures adds { (read : ℕ) × (seen self.new ≡ replicate result (Peek cpu lock ticket read) ++ seen self.old) }
+        ensures adds { (read : ℕ)
+            × (seen self.new ≡ replicate result (Peek cpu lock ticket read) ++ seen self.old) }
         ensures waits { grant_lock_phase cpu (seen self.new) ≡ Waiting lock ticket }
         ensures opening { opening self.new ≡ opening self.old }
         ensures site { site self.new ≡ site self.old }
@@ -131,12 +136,16 @@ pub trait GrantWords {
         requires cpu { ActsFor self.old cpu }
         requires lock { IsSome (opening self.old lock) }
         requires room { 0 < room self.old }
-        requires inside { (ticket : ℕ) × (grant_lock_phase cpu (seen self.old) ≡ Holding lock ticket) }
+        requires inside { (ticket : ℕ)
+            × (grant_lock_phase cpu (seen self.old) ≡ Holding lock ticket) }
         requires edited { option_map (Self.Edit.rules.edited (edit_in mark))
-            (block_after Self.Edit.rules.edited (opening self.old) lock (grant_sections (seen self.old))) ≡ Some block }
-        requires allowed { StaysAllowed (Self.Edit.rules.allowed (opening self.old)) (grant_sections (seen self.old))
+            (block_after Self.Edit.rules.edited (opening self.old) lock
+            (grant_sections (seen self.old))) ≡ Some block }
+        requires allowed { StaysAllowed (Self.Edit.rules.allowed (opening self.old))
+            (grant_sections (seen self.old))
             (section cpu lock (edit_in mark)) }
-        ensures adds { Adds (ActsFor self.old) cpu_of_grant (Give cpu lock (mark_of (edit_in mark))) (seen self.old) (seen self.new) }
+        ensures adds { Adds (ActsFor self.old) cpu_of_grant (Give cpu lock (mark_of (edit_in mark)))
+            (seen self.old) (seen self.new) }
         ensures opening { opening self.new ≡ opening self.old }
         ensures site { site self.new ≡ site self.old }
         ensures room { room self.old ≤ room self.new + 1 }

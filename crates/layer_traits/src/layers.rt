@@ -170,7 +170,8 @@ pub trait Layer<L: Law>: Sized {
         ensures cpu { cpu_of result ≡ cpu }
         ensures own { own result ≡ L.at_boot homes.now cpu }
         ensures call { under_way result ≡ None }
-        ensures fits { (m : Self.Machine) → ActsFor m cpu → IsOutside m cpu → L.Boots (opening m) (seen m) homes.now cpu → Fits result m };
+        ensures fits { (m : Self.Machine) → ActsFor m cpu → IsOutside m cpu
+            → L.Boots (opening m) (seen m) homes.now cpu → Fits result m };
 
     /// Returns whether the CPU waits at a lock or holds one.
     fn is_busy(&self) -> bool
@@ -194,7 +195,8 @@ pub trait Layer<L: Law>: Sized {
         ensures call { under_way self.new ≡ under_way self.old }
         ensures inside { is_inside self.new ≡ is_inside self.old }
         ensures seen { Grows (ActsFor m.old) L.cpu_of_event (seen m.old) (seen m.new) }
-        ensures framed { Framed Fits cpu_of opening site room ActsFor MayHold self.old self.new m.old m.new }
+        ensures framed { Framed Fits cpu_of opening site room ActsFor MayHold self.old self.new
+            m.old m.new }
         ensures tries { IsStepwise → result ≡ true
             → Tries (ActsFor m.old) (cpu_of self.old) (acts m.old) (acts m.new) };
 
@@ -235,17 +237,25 @@ pub trait Layer<L: Law>: Sized {
         requires fits { Fits self.old m.old }
         requires there { L.IsThere (opening m.old) call payload.old }
         requires room { 0 < room m.old }
-        requires call { L.MayPoll (opening m.old) (cpu_of self.old) (seen m.old) (own self.old) (under_way self.old) call payload.old }
-        ensures call { L.LeavesBegun (cpu_of self.old) call payload.old result (under_way self.new) }
-        ensures prompt { IsWhole → L.IsPrompt call payload.old result (own self.old) (own self.new) }
-        ensures seen { L.Polled (opening m.old) (ActsFor m.old) (cpu_of self.old) call payload.old (told_by L.told result payload.new)
+        requires call { L.MayPoll (opening m.old) (cpu_of self.old) (seen m.old) (own self.old)
+            (under_way self.old) call payload.old }
+        ensures call { L.LeavesBegun (cpu_of self.old) call payload.old result
+            (under_way self.new) }
+        ensures prompt { IsWhole
+            → L.IsPrompt call payload.old result (own self.old) (own self.new) }
+        ensures seen { L.Polled (opening m.old) (ActsFor m.old) (cpu_of self.old) call payload.old
+            (told_by L.told result payload.new)
             (seen m.old) (seen m.new) (own self.old) (own self.new) (under_way self.new) }
         ensures still { L.IsLocal (own self.old) call payload.old → m.new ≡ m.old }
-        ensures framed { Framed Fits cpu_of opening site room ActsFor MayHold self.old self.new m.old m.new }
-        ensures outside { OnSome result ((L.IsLocal (own self.old) call payload.old → ⊥) → IsOutside m.new (cpu_of self.old)) }
-        ensures follows { IsStepwise → Follows (ActsFor m.old) L.table (opening m.old) (cpu_of self.old)
+        ensures framed { Framed Fits cpu_of opening site room ActsFor MayHold self.old self.new
+            m.old m.new }
+        ensures outside { OnSome result
+            ((L.IsLocal (own self.old) call payload.old → ⊥) → IsOutside m.new (cpu_of self.old)) }
+        ensures follows { IsStepwise
+            → Follows (ActsFor m.old) L.table (opening m.old) (cpu_of self.old)
             (L.plan (opening m.old) (cpu_of self.old) call payload.old (own self.old))
-            (acts m.old) (acts m.new) (record { own = own self.new; answer = told_by L.told result payload.new }) };
+            (acts m.old) (acts m.new)
+            (record { own = own self.new; answer = told_by L.told result payload.new }) };
 
     /// Law: a part that agrees with a machine is of a CPU for which the machine's holder acts.
     ghost own_cpu: { (p : Self) (m : Self.Machine) → Fits p m → ActsFor m (cpu_of p) };

@@ -99,7 +99,8 @@ pub trait Locked: Sized + Drop {
         parcel: &mut Parcel,
     ) -> Self::Brought
         ensures block { block.new ≡ rules.edited (meant handed.now parcel.old) block.old }
-        ensures answer { told result parcel.new ≡ rules.answer (meant handed.now parcel.old) block.old };
+        ensures answer { told result parcel.new
+            ≡ rules.answer (meant handed.now parcel.old) block.old };
 
     /// Returns which thread the edit with this result signals.
     fn signals(brought: &Self::Brought) -> WakeWaiter
@@ -113,7 +114,8 @@ pub trait Locked: Sized + Drop {
     /// the edit's result. It is given no allocator.
     fn apply_last(last: Self::Release, block: &mut Self::Block) -> Self::Brought
         ensures block { block.new ≡ rules.last_edited last block.old }
-        ensures answer { (parcel : Parcel) → told result parcel ≡ rules.last_answer last block.old };
+        ensures answer { (parcel : Parcel)
+            → told result parcel ≡ rules.last_answer last block.old };
 
     /// Returns on which side the caller of the last edit with this result waits; `None` if it
     /// continues.

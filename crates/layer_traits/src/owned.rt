@@ -62,7 +62,8 @@ pub trait Owned: CallLayer<IpcLaw> {
     ) -> Result<Self::Machine, NoMemory>
         requires { AreOpenable cpus caps.now homes.now }
         ensures opened { IfOk result (λ m.
-            Opened (caps_in (Self.opening m)) (homes_in (Self.opening m)) (Self.seen m) (Self.moves m) (Self.room m) caps.now homes.now room) }
+            Opened (caps_in (Self.opening m)) (homes_in (Self.opening m)) (Self.seen m)
+            (Self.moves m) (Self.room m) caps.now homes.now room) }
         ensures fresh { IfOk result (λ m. (c : CpuId) → c.0 < cpus → Self.IsFresh m homes.now c) }
         ensures acts { IfOk result (λ m. (c : CpuId) → c.0 < CPUS → Self.ActsFor m c) }
         ensures none { IfOk result (λ m. Self.acts m ≡ []) }
@@ -113,7 +114,8 @@ pub trait Owned: CallLayer<IpcLaw> {
         requires thread { t.0 < length (homes_in (Self.opening m.now)) }
         ensures observed { (x : Place) → result ≡ Some x
             → IsOwnPlace (Self.cpu_of self.now) (threads_in (Self.own self.now)) t x
-            ⊎ (queue_place (where_is (homes_in (Self.opening m.now)) (Self.moves m.now) t) ≡ Some x) }
+            ⊎ (queue_place (where_is (homes_in (Self.opening m.now)) (Self.moves m.now) t)
+            ≡ Some x) }
         ensures silent { result ≡ None → IsSilent self.now m.now t };
 
     /// Law: each effect in the history is of a CPU that a machine may have.

@@ -83,7 +83,8 @@ pub trait OwnedLayer<L: BlockLaw>: Layer<L> {
 
     /// Returns the same of a block that this CPU holds; `None` if it does not hold the block.
     fn block_here(&self, b: BufId) -> Option<&L::Above>
-        ensures { option_map (λ block. block.now) result ≡ option_map L.above (block_with self.now b) };
+        ensures { option_map (λ block. block.now) result
+            ≡ option_map L.above (block_with self.now b) };
 
     /// Returns whether `t` is in the pending queue of `d`; `None` if a CPU holds that queue.
     ///
@@ -139,7 +140,8 @@ pub trait OwnedThreadLayer<L: SleeperLaw>: ThreadLayer<L> {
 
     /// Returns the same of a block that this CPU holds; `None` if it does not hold the block.
     fn block_here(&self, b: BufId) -> Option<&L::Above>
-        ensures { option_map (λ block. block.now) result ≡ option_map L.above (block_with self.now b) };
+        ensures { option_map (λ block. block.now) result
+            ≡ option_map L.above (block_with self.now b) };
 
     /// Returns the owner of the lock in the block of the buffer `b`; `None` if a CPU holds the
     /// block.

@@ -78,7 +78,8 @@ pub trait Sleeps: Sized + Drop {
         parcel: &mut Parcel,
     ) -> Self::Brought
         ensures block { block.new ≡ rules.edited (meant handed.now parcel.old) first block.old }
-        ensures answer { told result parcel.new ≡ rules.answer (meant handed.now parcel.old) first block.old };
+        ensures answer { told result parcel.new
+            ≡ rules.answer (meant handed.now parcel.old) first block.old };
 
     /// Returns which waiting list the caller joins; `None` if it does not fall asleep.
     fn joins(brought: &Self::Brought) -> Option<WaitList>

@@ -105,7 +105,8 @@ pub trait ThreadLayer<L: ThreadLaw>: Sized {
         ensures cpu { cpu_of result ≡ cpu }
         ensures own { own result ≡ L.at_boot homes.now cpu }
         ensures call { under_way result ≡ None }
-        ensures fits { (m : Self.Machine) → ActsFor m cpu → IsOutside m cpu → L.Boots (opening m) (seen m) homes.now cpu → Fits result m };
+        ensures fits { (m : Self.Machine) → ActsFor m cpu → IsOutside m cpu
+            → L.Boots (opening m) (seen m) homes.now cpu → Fits result m };
 
     /// Returns whether the CPU waits at a lock or holds one.
     fn is_busy(&self) -> bool
@@ -160,7 +161,8 @@ pub trait ThreadLayer<L: ThreadLaw>: Sized {
         ensures call { under_way self.new ≡ under_way self.old }
         ensures inside { is_inside self.new ≡ is_inside self.old }
         ensures seen { Grows (ActsFor m.old) L.cpu_of_event (seen m.old) (seen m.new) }
-        ensures framed { Framed Fits cpu_of opening site room ActsFor MayHold self.old self.new m.old m.new }
+        ensures framed { Framed Fits cpu_of opening site room ActsFor MayHold self.old self.new
+            m.old m.new }
         ensures tries { IsStepwise → result ≡ true
             → Tries (ActsFor m.old) (cpu_of self.old) (acts m.old) (acts m.new) };
 
@@ -201,17 +203,25 @@ pub trait ThreadLayer<L: ThreadLaw>: Sized {
         requires fits { Fits self.old m.old }
         requires there { L.IsThere (opening m.old) call payload.old }
         requires room { 0 < room m.old }
-        requires call { L.MayPoll (opening m.old) (cpu_of self.old) (seen m.old) (own self.old) (under_way self.old) call payload.old }
-        ensures call { L.LeavesBegun (cpu_of self.old) call payload.old result (under_way self.new) }
-        ensures prompt { IsWhole → L.IsPrompt call payload.old result (own self.old) (own self.new) }
-        ensures seen { L.Polled (opening m.old) (ActsFor m.old) (cpu_of self.old) call payload.old (told_by L.told result payload.new)
+        requires call { L.MayPoll (opening m.old) (cpu_of self.old) (seen m.old) (own self.old)
+            (under_way self.old) call payload.old }
+        ensures call { L.LeavesBegun (cpu_of self.old) call payload.old result
+            (under_way self.new) }
+        ensures prompt { IsWhole
+            → L.IsPrompt call payload.old result (own self.old) (own self.new) }
+        ensures seen { L.Polled (opening m.old) (ActsFor m.old) (cpu_of self.old) call payload.old
+            (told_by L.told result payload.new)
             (seen m.old) (seen m.new) (own self.old) (own self.new) (under_way self.new) }
         ensures still { L.IsLocal (own self.old) call payload.old → m.new ≡ m.old }
-        ensures framed { Framed Fits cpu_of opening site room ActsFor MayHold self.old self.new m.old m.new }
-        ensures outside { OnSome result ((L.IsLocal (own self.old) call payload.old → ⊥) → IsOutside m.new (cpu_of self.old)) }
-        ensures follows { IsStepwise → Follows (ActsFor m.old) L.table (opening m.old) (cpu_of self.old)
+        ensures framed { Framed Fits cpu_of opening site room ActsFor MayHold self.old self.new
+            m.old m.new }
+        ensures outside { OnSome result
+            ((L.IsLocal (own self.old) call payload.old → ⊥) → IsOutside m.new (cpu_of self.old)) }
+        ensures follows { IsStepwise
+            → Follows (ActsFor m.old) L.table (opening m.old) (cpu_of self.old)
             (L.plan (opening m.old) (cpu_of self.old) call payload.old (own self.old))
-            (acts m.old) (acts m.new) (record { own = own self.new; answer = told_by L.told result payload.new }) };
+            (acts m.old) (acts m.new)
+            (record { own = own self.new; answer = told_by L.told result payload.new }) };
 
     /// Performs at most one action of a pass. Returns `Some` once the pass has ended, and `None`
     /// while the same pass must be polled again.
@@ -221,16 +231,21 @@ pub trait ThreadLayer<L: ThreadLaw>: Sized {
     fn pass(&mut self, m: &mut Self::Machine, call: Pass, payload: &mut Payload) -> Option<()>
         requires fits { Fits self.old m.old }
         requires room { 0 < room m.old }
-        requires call { MayCall (under_way self.old) (L.pass_begun call) (MayPass call (L.threads_of (own self.old))) }
+        requires call { MayCall (under_way self.old) (L.pass_begun call)
+            (MayPass call (L.threads_of (own self.old))) }
         ensures call { under_way self.new ≡ until_answered result (L.pass_begun call) }
-        ensures seen { L.Passed (opening m.old) (ActsFor m.old) (cpu_of self.old) call result (seen m.old) (seen m.new)
+        ensures seen { L.Passed (opening m.old) (ActsFor m.old) (cpu_of self.old) call result
+            (seen m.old) (seen m.new)
             (L.threads_of (own self.old)) (L.threads_of (own self.new)) }
         ensures rest { L.KeepsRest (own self.old) (own self.new) }
         ensures still { IsLocalPass call → m.new ≡ m.old }
-        ensures framed { Framed Fits cpu_of opening site room ActsFor MayHold self.old self.new m.old m.new }
-        ensures outside { OnSome result ((IsLocalPass call → ⊥) → IsOutside m.new (cpu_of self.old)) }
+        ensures framed { Framed Fits cpu_of opening site room ActsFor MayHold self.old self.new
+            m.old m.new }
+        ensures outside { OnSome result
+            ((IsLocalPass call → ⊥) → IsOutside m.new (cpu_of self.old)) }
         ensures prompt { IsWhole → IsSome result }
-        ensures follows { IsStepwise → Follows (ActsFor m.old) L.table (opening m.old) (cpu_of self.old)
+        ensures follows { IsStepwise
+            → Follows (ActsFor m.old) L.table (opening m.old) (cpu_of self.old)
             (L.pass_plan (opening m.old) (cpu_of self.old) call (own self.old))
             (acts m.old) (acts m.new) (record { own = own self.new; answer = result }) };
 

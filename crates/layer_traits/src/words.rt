@@ -61,7 +61,8 @@ pub trait Words {
         requires lock { IsSome (opening self.old lock) }
         requires room { 0 < room self.old }
         requires outside { lock_phase cpu (seen self.old) ≡ Idle }
-        ensures adds { Adds (ActsFor self.old) cpu_of_event (Draw cpu lock result) (seen self.old) (seen self.new) }
+        ensures adds { Adds (ActsFor self.old) cpu_of_event (Draw cpu lock result) (seen self.old)
+            (seen self.new) }
         ensures opening { opening self.new ≡ opening self.old }
         ensures site { site self.new ≡ site self.old }
         ensures room { room self.old ≤ room self.new + 1 }
@@ -82,11 +83,14 @@ pub trait Words {
         requires lock { IsSome (opening self.old lock) }
         requires room { 0 < room self.old }
         requires waiting { lock_phase cpu (seen self.old) ≡ Waiting lock ticket }
-        ensures adds { (read : ℕ) × Adds (ActsFor self.old) cpu_of_event (Look cpu lock ticket read) (seen self.old) (seen self.new) }
+        ensures adds { (read : ℕ)
+            × Adds (ActsFor self.old) cpu_of_event (Look cpu lock ticket read) (seen self.old)
+            (seen self.new) }
         ensures hits { MatchOption result
             (lock_phase cpu (seen self.new) ≡ Waiting lock ticket)
             (λ block. (lock_phase cpu (seen self.new) ≡ Holding lock ticket)
-            × (block_after Self.Edit.rules.edited (opening self.new) lock (sections (seen self.new)) ≡ Some block)) }
+            × (block_after Self.Edit.rules.edited (opening self.new) lock (sections (seen self.new))
+            ≡ Some block)) }
         ensures opening { opening self.new ≡ opening self.old }
         ensures site { site self.new ≡ site self.old }
         ensures room { room self.old ≤ room self.new + 1 }
@@ -107,7 +111,8 @@ pub trait Words {
         requires waiting { lock_phase cpu (seen self.old) ≡ Waiting lock ticket }
         ensures few { BeginWith cpu result steps.now }
         ensures still { result ≡ 0 → self.new ≡ self.old }
-        ensures adds { (read : ℕ) × (seen self.new ≡ replicate result (Look cpu lock ticket read) ++ seen self.old) }
+        ensures adds { (read : ℕ)
+            × (seen self.new ≡ replicate result (Look cpu lock ticket read) ++ seen self.old) }
         ensures waits { lock_phase cpu (seen self.new) ≡ Waiting lock ticket }
         ensures opening { opening self.new ≡ opening self.old }
         ensures site { site self.new ≡ site self.old }
@@ -135,10 +140,13 @@ pub trait Words {
         requires room { 0 < room self.old }
         requires inside { (ticket : ℕ) × (lock_phase cpu (seen self.old) ≡ Holding lock ticket) }
         requires edited { option_map (Self.Edit.rules.edited (edit_in mark))
-            (block_after Self.Edit.rules.edited (opening self.old) lock (sections (seen self.old))) ≡ Some block }
-        requires allowed { StaysAllowed (Self.Edit.rules.allowed (opening self.old)) (sections (seen self.old))
+            (block_after Self.Edit.rules.edited (opening self.old) lock (sections (seen self.old)))
+            ≡ Some block }
+        requires allowed { StaysAllowed (Self.Edit.rules.allowed (opening self.old))
+            (sections (seen self.old))
             (section cpu lock (edit_in mark)) }
-        ensures adds { Adds (ActsFor self.old) cpu_of_event (Free cpu lock (mark_of (edit_in mark))) (seen self.old) (seen self.new) }
+        ensures adds { Adds (ActsFor self.old) cpu_of_event (Free cpu lock (mark_of (edit_in mark)))
+            (seen self.old) (seen self.new) }
         ensures opening { opening self.new ≡ opening self.old }
         ensures site { site self.new ≡ site self.old }
         ensures room { room self.old ≤ room self.new + 1 }

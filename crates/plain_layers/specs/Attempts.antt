@@ -2,12 +2,18 @@
 -- at most one thread; any other waits on its own side. A close cannot wake both sides at once, so
 -- the waiters of a closed buffer are released one after the other: a close wakes the first of them,
 -- and each that is released wakes the next.
-use Rattle.std.specs.Prelude.{ℕ, Bool, true, false, ◌&&◌, ◌||◌, List, [], length, nat_lt, Option, Some, None, is_some, if◌then◌else◌}
-use Rattle.{event_log.specs.{declared.ids.Tid.Tid, Messages.{Message, no_message}}, thread_blocks.specs.Queues.{first, rest}}
-use Rattle.layer_traits.specs.declared.{calls.Effect.Effect, locked.Side.{Side, TheVariants.{Receivers, Senders}}, moves.WaitList.WaitList, sleeps.Wake.Wake}
-use Rattle.layer_traits.specs.{Blocks.BufferBlocks.{counted, first_item, items_put, other_items}, Layers.{QLocking.wait_list_for, Sleeping.SleepRules}}
-use Rattle.{layer_traits.specs.Layers.Sleeping.joined, plain_layers.specs.declared.attempts.{Ask.{Ask, TheVariants.{Send, Receive, Close}}, Attempt.Attempt}}
-use Rattle.plain_layers.specs.declared.attempts.Tried.{Tried, TheVariants.{Acted, Refused}}
+use Rattle.std.specs.Prelude.{ℕ, Bool, true, false, ◌&&◌, ◌||◌, List, [], length, nat_lt, Option}
+use Rattle.std.specs.Prelude.{Some, None, is_some, if◌then◌else◌}
+use Rattle.event_log.specs.{declared.ids.Tid.Tid, Messages.{Message, no_message}}
+use Rattle.thread_blocks.specs.Queues.{first, rest}
+use Rattle.layer_traits.specs.declared.{calls.Effect.Effect, locked.Side.Side}
+use Rattle.layer_traits.specs.declared.locked.Side.TheVariants.{Receivers, Senders}
+use Rattle.layer_traits.specs.declared.{moves.WaitList.WaitList, sleeps.Wake.Wake}
+use Rattle.layer_traits.specs.Blocks.BufferBlocks.{counted, first_item, items_put, other_items}
+use Rattle.layer_traits.specs.Layers.{QLocking.wait_list_for, Sleeping.{SleepRules, joined}}
+use Rattle.plain_layers.specs.declared.attempts.Ask.{Ask, TheVariants.{Send, Receive, Close}}
+use Rattle.plain_layers.specs.declared.attempts.{Attempt.Attempt, Tried.{Tried, TheVariants.Acted}}
+use Rattle.plain_layers.specs.declared.attempts.Tried.TheVariants.{Refused}
 use Rattle.event_log.specs.declared.entries.Kind.TheVariants as kind
 use Rattle.layer_traits.specs.declared.sleeps.Wake.TheVariants as leave
 
@@ -62,10 +68,22 @@ allows Close x = true
 
 -- the effect of a call
 abbrev pub attempt_effect : Ask → PlainState → Effect
-attempt_effect (Send m) x = record { kind = if x.closed then kind.SendClosed else kind.Send; value = m; op = x.effects; pos = x.sends }
+attempt_effect (Send m) x =
+    record {
+      kind = if x.closed then kind.SendClosed else kind.Send;
+      value = m;
+      op = x.effects;
+      pos = x.sends;
+    }
 attempt_effect Receive x =
-    record { kind = if nat_lt 0 (length x.items) then kind.Recv else kind.RecvClosed; value = first_item x.items; op = x.effects; pos = x.receives }
-attempt_effect Close x = record { kind = kind.Close; value = no_message; op = x.effects; pos = x.closes }
+    record {
+      kind = if nat_lt 0 (length x.items) then kind.Recv else kind.RecvClosed;
+      value = first_item x.items;
+      op = x.effects;
+      pos = x.receives;
+    }
+attempt_effect Close x =
+    record { kind = kind.Close; value = no_message; op = x.effects; pos = x.closes }
 
 -- whether the buffer is closed after it
 abbrev pub closed_after : Ask → PlainState → Bool
@@ -100,14 +118,32 @@ wait_list_left Senders Senders queue = rest queue
 
 -- the buffer after the first of this side was woken
 abbrev pub attempt_woken : Side → PlainState → PlainState
-attempt_woken side x = record x { receivers = wait_list_left Receivers side x.receivers; senders = wait_list_left Senders side x.senders }
+attempt_woken side x =
+    record x {
+      receivers = wait_list_left Receivers side x.receivers;
+      senders = wait_list_left Senders side x.senders;
+    }
 
 -- the buffer after the effect of a call
 abbrev pub done : Ask → PlainState → PlainState
 done (Send m) x =
-    record (attempt_woken (waking (Send m) x) x) { items = items_put x.closed m x.items; effects = counted x.effects; sends = counted x.sends }
-done Receive x = record (attempt_woken (waking Receive x) x) { items = other_items x.items; effects = counted x.effects; receives = counted x.receives }
-done Close x = record (attempt_woken (waking Close x) x) { closed = true; effects = counted x.effects; closes = counted x.closes }
+    record (attempt_woken (waking (Send m) x) x) {
+      items = items_put x.closed m x.items;
+      effects = counted x.effects;
+      sends = counted x.sends;
+    }
+done Receive x =
+    record (attempt_woken (waking Receive x) x) {
+      items = other_items x.items;
+      effects = counted x.effects;
+      receives = counted x.receives;
+    }
+done Close x =
+    record (attempt_woken (waking Close x) x) {
+      closed = true;
+      effects = counted x.effects;
+      closes = counted x.closes;
+    }
 
 -- the buffer after this thread joined the waiters of a side
 abbrev pub with_waiter : Tid → Side → PlainState → PlainState
@@ -120,7 +156,9 @@ attempted a x = if allows a.ask x then done a.ask x else with_waiter a.thread (a
 
 -- the result of an attempt
 abbrev pub attempt_told : Attempt → PlainState → Tried
-attempt_told a x = if allows a.ask x then Acted (attempt_effect a.ask x) (attempt_wakes a.ask x) else Refused (attempt_side a.ask)
+attempt_told a x =
+    if allows a.ask x then Acted (attempt_effect a.ask x) (attempt_wakes a.ask x)
+    else Refused (attempt_side a.ask)
 
 -- the effect of an attempt with this result, if it had one
 abbrev pub effect_in : Tried → Option Effect

@@ -1,7 +1,9 @@
 -- What is read from a buffer's lock if a call is one section: its items, whether it is closed, and
 -- its wait lists; no thread owns it.
-use Rattle.{std.specs.Prelude.{Bool, List, Option, Some, None}, event_log.specs.{declared.ids.Tid.Tid, Messages.Message}}
-use Rattle.{layer_traits.specs.{declared.moves.WaitList.WaitList, Layers.Sleeping.wait_list_at}, plain_layers.specs.Fifos.PlainLocked}
+use Rattle.std.specs.Prelude.{Bool, List, Option, Some, None}
+use Rattle.event_log.specs.{declared.ids.Tid.Tid, Messages.Message}
+use Rattle.layer_traits.specs.{declared.moves.WaitList.WaitList, Layers.Sleeping.wait_list_at}
+use Rattle.plain_layers.specs.Fifos.{PlainLocked}
 
 -- the items of a lock's buffer, whether it is closed, and its wait lists
 abbrev pub plain_items_in : PlainLocked → List Message

@@ -1,14 +1,24 @@
 -- Buffers with one section a call: which section a call is, what it leaves, and what a machine of
 -- such sections shows.
-use Rattle.std.specs.Prelude.{◌≡◌, ◌≢◌, ℕ, ◌<◌, List, [], ◌∷◌, ◌++◌, length, Option, Some, None, option_map, option_to_list, replicate, slice_get}
-use Rattle.event_log.specs.declared.{entries.Entry.Entry, ids.{BufId.BufId, CpuId.CpuId, LockId.{LockId, TheVariants.{Pending, Buffer}}, Tid.Tid}}
-use Rattle.{event_log.specs.{declared.ids.TheConstants.{CPUS, THREADS}, Sections.{Section, block_after}}, layer_traits.specs.declared.calls.Call.Call}
-use Rattle.layer_traits.specs.declared.{calls.{Call.TheVariants.{Send, Recv, Close}, Effect.Effect, Reply.Reply}, queue_edits.QueueBlock.QueueBlock}
-use Rattle.layer_traits.specs.declared.{moves.WaitList.WaitList, scheds.SchedCall.SchedCall, call_states.{Stage.TheVariants.{Idle, Waits}, CallState.CallState}}
-use Rattle.layer_traits.specs.Layers.{BufferLaw.{Buffering, buffering, entry_of, reply_of, call_state_of}, Sleeping.{SleepState, wait_list_at, sleep_edited}}
-use Rattle.layer_traits.specs.{Layers.SleepLaw.Sleeping, Blocks.{BufferProtocol.BufferLock, Capacities.caps_in, QueueBlocks.inner}, Threads.Places.Threads}
-use Rattle.{layer_traits.specs.Views.Renaming.viewed, plain_layers.specs.{declared.attempts.{Ask.Ask, Attempt.Attempt, Tried.Tried}, Attempts.PlainState}}
-use Rattle.plain_layers.specs.Attempts.{attempts, effect_in, plain_empty_buffer, attempt_told}
+use Rattle.std.specs.Prelude.{◌≡◌, ◌≢◌, ℕ, ◌<◌, List, [], ◌∷◌, ◌++◌, length, Option, Some, None}
+use Rattle.std.specs.Prelude.{option_map, option_to_list, replicate, slice_get}
+use Rattle.event_log.specs.declared.{entries.Entry.Entry, ids.{BufId.BufId, CpuId.CpuId}}
+use Rattle.event_log.specs.declared.ids.{LockId.{LockId, TheVariants.{Pending, Buffer}}, Tid.Tid}
+use Rattle.event_log.specs.{declared.ids.TheConstants.{CPUS, THREADS}, Sections.Section}
+use Rattle.{event_log.specs.Sections.block_after, layer_traits.specs.declared.calls.Call.Call}
+use Rattle.layer_traits.specs.declared.calls.{Call.TheVariants.{Send, Recv, Close}, Effect.Effect}
+use Rattle.layer_traits.specs.declared.{calls.Reply.Reply, queue_edits.QueueBlock.QueueBlock}
+use Rattle.layer_traits.specs.declared.{moves.WaitList.WaitList, scheds.SchedCall.SchedCall}
+use Rattle.layer_traits.specs.declared.call_states.Stage.TheVariants.{Idle, Waits}
+use Rattle.layer_traits.specs.{declared.call_states.CallState.CallState, Layers.BufferLaw.Buffering}
+use Rattle.layer_traits.specs.Layers.BufferLaw.{buffering, entry_of, reply_of, call_state_of}
+use Rattle.layer_traits.specs.Layers.Sleeping.{SleepState, wait_list_at, sleep_edited}
+use Rattle.layer_traits.specs.{Layers.SleepLaw.Sleeping, Blocks.BufferProtocol.BufferLock}
+use Rattle.layer_traits.specs.Blocks.{Capacities.caps_in, QueueBlocks.inner}
+use Rattle.layer_traits.specs.{Threads.Places.Threads, Views.Renaming.viewed}
+use Rattle.plain_layers.specs.declared.attempts.{Ask.Ask, Attempt.Attempt, Tried.Tried}
+use Rattle.plain_layers.specs.Attempts.{PlainState, attempts, effect_in, plain_empty_buffer}
+use Rattle.plain_layers.specs.Attempts.{attempt_told}
 use Rattle.plain_layers.specs.declared.attempts.Ask.TheVariants as ask
 
 -- a buffer with the wait lists of its lock
@@ -35,7 +45,8 @@ abbrev pub reply_to : Call → Option Effect → Option Reply
 reply_to call effect = option_map (reply_of call) effect
 
 -- a lock after these sections
-abbrev pub locked_after : (LockId → Option PlainLocked) → LockId → List (Section Attempt) → Option PlainLocked
+abbrev pub locked_after : (LockId → Option PlainLocked) → LockId → List (Section Attempt)
+    → Option PlainLocked
 locked_after opening lock past = block_after (sleep_edited attempts) opening lock past
 
 -- the effect of an attempt at a buffer, if the buffer allows one
@@ -51,11 +62,14 @@ entry_at c (Buffer b) a state = option_map (entry_of c a.thread b) (effect_by a 
 -- the effects of these sections
 abbrev pub plain_entries_in : (LockId → Option PlainLocked) → List (Section Attempt) → List Entry
 plain_entries_in opening [] = []
-plain_entries_in opening (s ∷ past) = option_to_list (entry_at s.cpu s.lock s.edit (locked_after opening s.lock past)) ++ plain_entries_in opening past
+plain_entries_in opening (s ∷ past) =
+    option_to_list (entry_at s.cpu s.lock s.edit (locked_after opening s.lock past))
+    ++ plain_entries_in opening past
 
 -- a buffer with room for so many items, at which no thread waits
 abbrev pub fresh_buffer : ℕ → PlainLocked
-fresh_buffer capacity = record { sleepers = []; receivers = []; senders = []; above = plain_empty_buffer capacity }
+fresh_buffer capacity =
+    record { sleepers = []; receivers = []; senders = []; above = plain_empty_buffer capacity }
 
 -- the buffers of these capacities
 abbrev pub fresh_buffers : List ℕ → LockId → Option PlainLocked
@@ -63,7 +77,8 @@ fresh_buffers caps (Pending d) = None
 fresh_buffers caps (Buffer b) = option_map fresh_buffer (slice_get caps b.0)
 
 -- the threads that wait at a buffer
-abbrev pub wait_lists_in : (LockId → Option PlainLocked) → List (Section Attempt) → BufId → WaitList → List Tid
+abbrev pub wait_lists_in : (LockId → Option PlainLocked) → List (Section Attempt) → BufId → WaitList
+    → List Tid
 wait_lists_in opening past b line = wait_list_at line (locked_after opening (Buffer b) past)
 
 -- a buffer as the layer's trait shows it: its lock has no owner, and the lines of the block are
@@ -88,21 +103,28 @@ plain_shown state = record {
 }
 
 -- the machine has one holder for all CPUs, and opened with fresh buffers
-pub record IsOwned (ActsFor : CpuId → Type 0) (opening : LockId → Option (QueueBlock PlainLocked)) : Type 0 where
+pub record IsOwned (ActsFor : CpuId → Type 0)
+    (opening : LockId → Option (QueueBlock PlainLocked)) : Type 0 where
   pub all : (c : CpuId) → c.0 < CPUS → ActsFor c
   pub fresh : inner opening ≡ fresh_buffers (caps_in (viewed plain_shown opening))
 
 -- between its polls a part has nothing begun; and a thread has an effect only after its call is
 -- over
-pub record RestsBetweenPolls (under : Option (SchedCall Attempt)) (own : Sleeping Tried) (call_states : List CallState) : Type 0 where
+pub record RestsBetweenPolls (under : Option (SchedCall Attempt)) (own : Sleeping Tried)
+    (call_states : List CallState) : Type 0 where
   pub none : under ≡ None
   pub deferred : own.deferred ≡ None
-  pub waits : (t : Tid) → (call_state_of call_states t).stage ≢ Idle → (call_state_of call_states t).effect ≡ None
+  pub waits : (t : Tid) → (call_state_of call_states t).stage ≢ Idle
+      → (call_state_of call_states t).effect ≡ None
   pub slots : length call_states ≡ THREADS
 
 -- a part's private state, as the layer's trait shows it
 abbrev pub plain_own_of : Threads → List CallState → Buffering
 plain_own_of threads call_states = buffering (record {
-  lock = record { sleep = record { threads = threads; deferred = None }; slept = replicate THREADS None };
+  lock =
+      record {
+        sleep = record { threads = threads; deferred = None };
+        slept = replicate THREADS None;
+      };
   waits = replicate THREADS None;
 }) call_states

@@ -1,8 +1,10 @@
 -- The list of the blocks of all locks, and the list of the sections that were done, newest first.
-use Rattle.std.specs.Prelude.{◌≡◌, ℕ, zero, suc, ◌-◌, true, false, List, [], ◌∷◌, length, map, reverse, Option}
-use Rattle.event_log.specs.{declared.ids.LockId.LockId, History.{IsLawful, same_lock}, Log.{events_in, room_of}, Sections.{Section, block_after}}
-use Rattle.{layer_traits.specs.Protocols.{OneLock.opened, Protocol.{IsKnown, Rules, section}}, plain_layers.specs.declared.lock_table.LockTable.LockTable}
-use Rattle.plain_layers.specs.declared.lock_table.Noted.{Noted}
+use Rattle.std.specs.Prelude.{◌≡◌, ℕ, zero, suc, ◌-◌, true, false, List, [], ◌∷◌, length, map}
+use Rattle.std.specs.Prelude.{reverse, Option}
+use Rattle.event_log.specs.{declared.ids.LockId.LockId, History.{IsLawful, same_lock}}
+use Rattle.event_log.specs.{Log.{events_in, room_of}, Sections.{Section, block_after}}
+use Rattle.layer_traits.specs.Protocols.{OneLock.opened, Protocol.{IsKnown, Rules, section}}
+use Rattle.plain_layers.specs.declared.lock_table.{LockTable.LockTable, Noted.Noted}
 
 -- the section that was noted
 abbrev pub section_noted : {E : Type 0} → Noted E → Section E
@@ -21,7 +23,8 @@ abbrev pub room_in : {E B O H A : Type 0} → LockTable E B O H A → ℕ
 room_in m = room_of m.log - length (events_in m.log)
 
 -- the sections kept the protocol, and the list has the block of each lock that they leave
-pub record IsTable {E B O : Type 0} (rules : Rules E B O) (opening : LockId → Option B) (past : List (Section E)) (list : List (LockId × B)) : Type 0 where
+pub record IsTable {E B O : Type 0} (rules : Rules E B O) (opening : LockId → Option B)
+    (past : List (Section E)) (list : List (LockId × B)) : Type 0 where
   pub lawful : IsLawful (rules.allowed opening) past
   pub known : IsLawful IsKnown past
   pub blocks : (lock : LockId) → opened list lock ≡ block_after rules.edited opening lock past

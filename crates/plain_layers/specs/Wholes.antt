@@ -1,9 +1,12 @@
 -- A whole section of a whole machine: the section itself and, if it woke a thread of another CPU
 -- while its caller continues, the forwarding of that thread to its home CPU.
 use Rattle.std.specs.Prelude.{◌≡◌, ◌⊎◌, true, false, List, ◌∷◌, Some, None}
-use Rattle.{event_log.specs.declared.ids.{BufId.BufId, CpuId.CpuId, Tid.Tid}, layer_traits.specs.declared.queues.QueueCall.TheVariants.{Push, OnBuffer}}
-use Rattle.layer_traits.specs.{declared.{queues.QueueEvent.QueueEvent, sleeps.Outcome.Outcome}, Threads.{Passes.{passed_on, queue_for}, Places.Threads}}
-use Rattle.layer_traits.specs.Layers.{Queues.{Kernel, event, out_at}, Scheds.own_answered, SleepLaw.{Sleeping, must_send}}
+use Rattle.event_log.specs.declared.ids.{BufId.BufId, CpuId.CpuId, Tid.Tid}
+use Rattle.layer_traits.specs.declared.queues.QueueCall.TheVariants.{Push, OnBuffer}
+use Rattle.layer_traits.specs.declared.{queues.QueueEvent.QueueEvent, sleeps.Outcome.Outcome}
+use Rattle.layer_traits.specs.Threads.{Passes.{passed_on, queue_for}, Places.Threads}
+use Rattle.layer_traits.specs.Layers.{Queues.{Kernel, event, out_at}, Scheds.own_answered}
+use Rattle.layer_traits.specs.Layers.SleepLaw.{Sleeping, must_send}
 
 -- a machine of which one poll is one call, and not one action
 abbrev pub IsCoarse : Type 0 → Type 0 → Type 0
@@ -17,9 +20,11 @@ pub record Asked (E B O : Type 0) : Type 1 where
   pub edit : E
 
 abbrev pub asked_edit : {E B O : Type 0} → Kernel E B (Outcome O) → CpuId → BufId → E → Asked E B O
-asked_edit kernel cpu buffer edit = record { kernel = kernel; cpu = cpu; buffer = buffer; edit = edit }
+asked_edit kernel cpu buffer edit =
+    record { kernel = kernel; cpu = cpu; buffer = buffer; edit = edit }
 
-module _ {E B O : Type 0} (s : Asked E B O) (old new : List (QueueEvent E)) (own : Threads) (left : Sleeping O) (outcome : Outcome O) where
+module _ {E B O : Type 0} (s : Asked E B O) (old new : List (QueueEvent E)) (own : Threads)
+    (left : Sleeping O) (outcome : Outcome O) where
   -- the CPU's scheduling state after the section
   abbrev pub own_done : Threads
   own_done = own_answered s.kernel.moves s.kernel.homes s.cpu (Some outcome) own
@@ -37,7 +42,8 @@ module _ {E B O : Type 0} (s : Asked E B O) (old new : List (QueueEvent E)) (own
     pub sends : must_send outcome own_done ≡ true
     pub woken : Tid
     pub hand : own_done.hand ≡ Some woken
-    pub seen : new ≡ event s.cpu (Push (queue_for s.kernel.homes s.cpu woken) woken) ∷ event s.cpu (OnBuffer s.buffer s.edit) ∷ old
+    pub seen : new ≡ event s.cpu (Push (queue_for s.kernel.homes s.cpu woken) woken)
+        ∷ event s.cpu (OnBuffer s.buffer s.edit) ∷ old
     pub leaves : left ≡ record { threads = passed_on own_done; deferred = None }
 
   -- one of the two

@@ -37,7 +37,8 @@ pub trait OpensAttempts: OwnedThreadLayer<SleepLaw<Attempt>> {
         ensures seen { IfOk result (λ m. Self.seen m ≡ []) }
         ensures room { IfOk result (λ m. room ≤ Self.room m) }
         ensures homes { IfOk result (λ m. homes_in (Self.opening m) ≡ homes.now) }
-        ensures queues { IfOk result (λ m. (c : CpuId) → c.0 < cpus → IsSome (Self.opening m (Pending c))) }
+        ensures queues { IfOk result
+            (λ m. (c : CpuId) → c.0 < cpus → IsSome (Self.opening m (Pending c))) }
         ensures buffers { IfOk result (λ m. inner (Self.opening m) ≡ fresh_buffers caps.now) }
         ensures acts { IfOk result (λ m. (c : CpuId) → c.0 < CPUS → Self.ActsFor m c) }
         ensures outside { IfOk result (λ m. (c : CpuId) → Self.IsOutside m c) }

@@ -168,7 +168,8 @@ impl PlainBuffer {
     fn wake_after(&mut self, own: Side) -> Wake
         ensures block { self.new ≡ attempt_woken (waking_by self.old.closed own self.old) self.old }
         ensures reported { result
-            ≡ leaving_side (waking_by self.old.closed own self.old) (first (waiting_on (waking_by self.old.closed own self.old) self.old)) }
+            ≡ leaving_side (waking_by self.old.closed own self.old)
+            (first (waiting_on (waking_by self.old.closed own self.old) self.old)) }
     {
         if self.closed && self.has_waiting(own) {
             return self.wake(own);
@@ -183,7 +184,9 @@ impl PlainBuffer {
     fn send(&mut self, message: &Msg) -> Tried
         requires { allows (Send message.now) self.old ≡ true }
         ensures block { self.new ≡ done (Send message.now) self.old }
-        ensures reported { result ≡ Acted (attempt_effect (Send message.now) self.old) (attempt_wakes (Send message.now) self.old) }
+        ensures reported { result
+            ≡ Acted (attempt_effect (Send message.now) self.old)
+            (attempt_wakes (Send message.now) self.old) }
     {
         let effect = Effect {
             kind: if self.closed {
@@ -207,7 +210,8 @@ impl PlainBuffer {
     fn receive(&mut self) -> Tried
         requires { allows Receive self.old ≡ true }
         ensures block { self.new ≡ done Receive self.old }
-        ensures reported { result ≡ Acted (attempt_effect Receive self.old) (attempt_wakes Receive self.old) }
+        ensures reported { result
+            ≡ Acted (attempt_effect Receive self.old) (attempt_wakes Receive self.old) }
     {
         let item = self.items.take();
         let effect = Effect {
@@ -228,7 +232,8 @@ impl PlainBuffer {
     /// Closes the buffer.
     fn close(&mut self) -> Tried
         ensures block { self.new ≡ done Close self.old }
-        ensures reported { result ≡ Acted (attempt_effect Close self.old) (attempt_wakes Close self.old) }
+        ensures reported { result
+            ≡ Acted (attempt_effect Close self.old) (attempt_wakes Close self.old) }
     {
         let effect = Effect {
             kind: Kind::Close,
@@ -258,7 +263,8 @@ impl PlainBuffer {
 /// by its effect.
 pub fn closed_buffers_let_all_go()
     ensures goes { (ask : Ask) (x : PlainState) → x.closed ≡ true → allows ask x ≡ true }
-    ensures wakes { (ask : Ask) (x : PlainState) → closed_after ask x ≡ true → attempt_wakes ask x ≡ Nobody → (x.receivers ≡ []) × (x.senders ≡ []) }
+    ensures wakes { (ask : Ask) (x : PlainState) → closed_after ask x ≡ true
+        → attempt_wakes ask x ≡ Nobody → (x.receivers ≡ []) × (x.senders ≡ []) }
 {}
 
 /// Returns the side of a call.

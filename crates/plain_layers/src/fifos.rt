@@ -84,7 +84,8 @@ fn answer(call: &Call, effect: &Effect) -> ReplyKind
 
 /// Returns the kind of the reply of a call after this effect, or none.
 fn reply(call: &Call, effect: &Option<Effect>) -> Option<ReplyKind>
-    ensures { option_map (λ kind. reply_with kind effect.now) result ≡ reply_to call.now effect.now }
+    ensures { option_map (λ kind. reply_with kind effect.now) result
+        ≡ reply_to call.now effect.now }
 {
     match effect {
         None => None,

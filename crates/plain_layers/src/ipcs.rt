@@ -53,5 +53,6 @@ impl<S: OpensAttempts> WholeBuffers for PlainFifo<S> {
 
 /// Law: each poll of one-step message calls is one call, and not one action.
 pub fn ipc_is_whole()
-    ensures { IsCoarse ⟦<PlainIpc as CallLayer<IpcLaw>>⟧.IsWhole ⟦<PlainIpc as CallLayer<IpcLaw>>⟧.IsStepwise }
+    ensures { IsCoarse ⟦<PlainIpc as CallLayer<IpcLaw>>⟧.IsWhole
+        ⟦<PlainIpc as CallLayer<IpcLaw>>⟧.IsStepwise }
 {}

@@ -57,8 +57,10 @@ impl<E: Moves> PlainKernel<E> {
         ensures seen { IfOk result (λ m. calls_in m ≡ []) }
         ensures room { IfOk result (λ m. call_room m ≡ room) }
         ensures homes { IfOk result (λ m. homes_in (opening_of m.opening) ≡ homes.now) }
-        ensures queues { IfOk result (λ m. (c : _) → c.0 < cpus → IsSome (opening_of m.opening (Pending c))) }
-        ensures blocks { IfOk result (λ m. (b : _) → inner (opening_of m.opening) (Buffer b) ≡ slice_get buffers.items b.0) }
+        ensures queues { IfOk result
+            (λ m. (c : _) → c.0 < cpus → IsSome (opening_of m.opening (Pending c))) }
+        ensures blocks { IfOk result
+            (λ m. (b : _) → inner (opening_of m.opening) (Buffer b) ≡ slice_get buffers.items b.0) }
     {
         let log = EventLog::with_room(alloc, room)?;
         let pending = empty_queues(alloc, cpus)?;
@@ -87,16 +89,21 @@ impl<E: Moves> PlainKernel<E> {
         call: QueueCall<E::Handed>,
         payload: &mut Payload,
     ) -> BareQueueAnswer<E::Brought>
-        requires sound { IsKernel E.rules E.moves self.old.opening (calls_in self.old) self.old.lists }
+        requires sound { IsKernel E.rules E.moves self.old.opening (calls_in self.old)
+            self.old.lists }
         requires room { 0 < call_room self.old }
         requires cpu { cpu.0 < CPUS }
         requires lock { IsSome (opening_of self.old.opening (lock_of call)) }
-        requires call { CallAllowed (kernel E.rules E.moves (opening_of self.old.opening)) (calls_in self.old) cpu (call_meant E.meant call payload.old) }
-        ensures sound { IsKernel E.rules E.moves self.new.opening (calls_in self.new) self.new.lists }
+        requires call { CallAllowed (kernel E.rules E.moves (opening_of self.old.opening))
+            (calls_in self.old) cpu (call_meant E.meant call payload.old) }
+        ensures sound { IsKernel E.rules E.moves self.new.opening (calls_in self.new)
+            self.new.lists }
         ensures opening { self.new.opening ≡ self.old.opening }
-        ensures seen { calls_in self.new ≡ event cpu (call_meant E.meant call payload.old) ∷ calls_in self.old }
+        ensures seen { calls_in self.new
+            ≡ event cpu (call_meant E.meant call payload.old) ∷ calls_in self.old }
         ensures room { call_room self.old ≡ call_room self.new + 1 }
-        ensures answer { answer_of (kernel E.rules E.moves (opening_of self.old.opening)) (calls_in self.old) (call_meant E.meant call payload.old)
+        ensures answer { answer_of (kernel E.rules E.moves (opening_of self.old.opening))
+            (calls_in self.old) (call_meant E.meant call payload.old)
             ≡ Some (queue_told E.told result payload.new) }
     {
         // What the call leaves in the payload may overwrite its parcel.
@@ -108,14 +115,16 @@ impl<E: Moves> PlainKernel<E> {
 
     /// Returns the block of the buffer `b`; `None` if there is no such buffer.
     pub fn block(&self, b: BufId) -> Option<&E::Block>
-        ensures { option_map (λ block. block.now) result ≡ slice_get self.now.lists.buffers.items b.0 }
+        ensures { option_map (λ block. block.now) result
+            ≡ slice_get self.now.lists.buffers.items b.0 }
     {
         self.lists.buffers.get(usize::from(b.0))
     }
 
     /// Returns whether `t` is pending at the CPU `d`; `None` if there is no such CPU.
     pub fn pends(&self, d: CpuId, t: Tid) -> Option<bool>
-        ensures { result ≡ option_map (λ queue. is_in t queue) (slice_get self.now.lists.pending.items d.0) }
+        ensures { result ≡ option_map (λ queue. is_in t queue)
+            (slice_get self.now.lists.pending.items d.0) }
     {
         match self.lists.pending.get(usize::from(d.0)) {
             Some(queue) => Some(queue.contains(t)),
@@ -144,7 +153,8 @@ fn do_call<E: Moves>(
     payload: &mut Payload,
 ) -> BareQueueAnswer<E::Brought>
     requires { CanDo call.now lists.old }
-    ensures { IsDone E.rules (call_meant E.meant call.now payload.old) lists.old lists.new (queue_told E.told result payload.new) }
+    ensures { IsDone E.rules (call_meant E.meant call.now payload.old) lists.old lists.new
+        (queue_told E.told result payload.new) }
 {
     match call {
         QueueCall::Push(queue, t) => {

@@ -119,12 +119,16 @@ impl<E: SplitEdit> OwnedLocks<E> for PlainLock<E> {
     ) -> Result<LockTable<E>, NoMemory>
         requires distinct { AreDistinct blocks.items }
         ensures seen { IfOk result (λ m. ⟦<PlainLock<E> as Layer<LockLaw<E>>>⟧.seen m ≡ []) }
-        ensures opening { IfOk result (λ m. ⟦<PlainLock<E> as Layer<LockLaw<E>>>⟧.opening m ≡ opened blocks.items) }
+        ensures opening { IfOk result
+            (λ m. ⟦<PlainLock<E> as Layer<LockLaw<E>>>⟧.opening m ≡ opened blocks.items) }
         ensures room { IfOk result (λ m. ⟦<PlainLock<E> as Layer<LockLaw<E>>>⟧.room m ≡ room) }
-        ensures acts { IfOk result (λ m. (c : _) → c.0 < CPUS → ⟦<PlainLock<E> as Layer<LockLaw<E>>>⟧.ActsFor m c) }
-        ensures outside { IfOk result (λ m. (c : _) → ⟦<PlainLock<E> as Layer<LockLaw<E>>>⟧.IsOutside m c) }
+        ensures acts { IfOk result
+            (λ m. (c : _) → c.0 < CPUS → ⟦<PlainLock<E> as Layer<LockLaw<E>>>⟧.ActsFor m c) }
+        ensures outside { IfOk result
+            (λ m. (c : _) → ⟦<PlainLock<E> as Layer<LockLaw<E>>>⟧.IsOutside m c) }
         ensures none { IfOk result (λ m. ⟦<PlainLock<E> as Layer<LockLaw<E>>>⟧.acts m ≡ []) }
-        ensures holders { IfOk result (λ m. (c : _) → ⟦<PlainLock<E> as Layer<LockLaw<E>>>⟧.MayHold m c → ⊥) }
+        ensures holders { IfOk result
+            (λ m. (c : _) → ⟦<PlainLock<E> as Layer<LockLaw<E>>>⟧.MayHold m c → ⊥) }
     {
         LockTable::open(alloc, blocks, room)
     }

@@ -180,9 +180,12 @@ fn apply<F: Locked>(
     block: &mut PlainQBlock<F::Block>,
     payload: &mut Payload,
 ) -> Outcome<QOut<F::Brought>>
-    ensures lock { lock_in block.new ≡ lock_edited F.rules (lock_meant F.meant handed.now payload.old.parcel) (lock_in block.old) }
+    ensures lock { lock_in block.new
+        ≡ lock_edited F.rules (lock_meant F.meant handed.now payload.old.parcel)
+        (lock_in block.old) }
     ensures answer { outcome_told (lock_told F.told) result payload.new.parcel
-        ≡ lock_answer F.rules (lock_meant F.meant handed.now payload.old.parcel) (lock_in block.old) }
+        ≡ lock_answer F.rules (lock_meant F.meant handed.now payload.old.parcel)
+        (lock_in block.old) }
 {
     match handed {
         QEdit::Acquire(t) => {

@@ -38,7 +38,8 @@ pub struct PlainQLock<F: Locked> {
 
 /// Returns the thread that calls.
 fn caller<F: Locked>(call: &QEdit<F::Handed, F::Release>) -> Tid
-    ensures { (parcel : Parcel) → result ≡ lock_caller F.rules (lock_meant F.meant call.now parcel) }
+    ensures { (parcel : Parcel)
+        → result ≡ lock_caller F.rules (lock_meant F.meant call.now parcel) }
 {
     match call {
         QEdit::Acquire(t) => *t,
@@ -367,5 +368,6 @@ impl<F: Locked> OwnedThreadLayer<QLockLaw<F>> for PlainQLock<F> {
 
 /// Law: each poll of one-step queuing locks is one call, and not one action.
 pub fn lock_is_whole<F: Locked>()
-    ensures { IsCoarse ⟦<PlainQLock<F> as ThreadLayer<QLockLaw<F>>>⟧.IsWhole ⟦<PlainQLock<F> as ThreadLayer<QLockLaw<F>>>⟧.IsStepwise }
+    ensures { IsCoarse ⟦<PlainQLock<F> as ThreadLayer<QLockLaw<F>>>⟧.IsWhole
+        ⟦<PlainQLock<F> as ThreadLayer<QLockLaw<F>>>⟧.IsStepwise }
 {}

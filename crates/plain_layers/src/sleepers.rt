@@ -25,10 +25,12 @@ pub type PlainCond<G> = Cond<PlainQLock<CvEdit<G>>>;
 
 /// Law: each poll of one-step sleep and wakeup is one call, and not one action.
 pub fn sleep_is_whole<E: Sleeps>()
-    ensures { IsCoarse ⟦<PlainSleep<E> as ThreadLayer<SleepLaw<E>>>⟧.IsWhole ⟦<PlainSleep<E> as ThreadLayer<SleepLaw<E>>>⟧.IsStepwise }
+    ensures { IsCoarse ⟦<PlainSleep<E> as ThreadLayer<SleepLaw<E>>>⟧.IsWhole
+        ⟦<PlainSleep<E> as ThreadLayer<SleepLaw<E>>>⟧.IsStepwise }
 {}
 
 /// Law: the same of one-step conditions.
 pub fn cond_is_whole<G: Guarded>()
-    ensures { IsCoarse ⟦<PlainCond<G> as ThreadLayer<CvLaw<G>>>⟧.IsWhole ⟦<PlainCond<G> as ThreadLayer<CvLaw<G>>>⟧.IsStepwise }
+    ensures { IsCoarse ⟦<PlainCond<G> as ThreadLayer<CvLaw<G>>>⟧.IsWhole
+        ⟦<PlainCond<G> as ThreadLayer<CvLaw<G>>>⟧.IsStepwise }
 {}

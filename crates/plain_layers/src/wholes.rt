@@ -31,10 +31,14 @@ where
     requires deferred { (S.own part.old).deferred ≡ None }
     requires buffer { IsSome (S.opening m.old (Buffer buffer)) }
     requires room { 1 < S.room m.old }
-    requires call { MaySleep (sleep_kernel E.rules (S.opening m.old)) (S.cpu_of part.old) (S.seen m.old) (S.own part.old).threads buffer
+    requires call { MaySleep (sleep_kernel E.rules (S.opening m.old)) (S.cpu_of part.old)
+        (S.seen m.old) (S.own part.old).threads buffer
         (E.meant edit payload.old.parcel) }
-    ensures done { IsDoneWhole (asked_edit (sleep_kernel E.rules (S.opening m.old)) (S.cpu_of part.old) buffer (E.meant edit payload.old.parcel))
-        (S.seen m.old) (S.seen m.new) (S.own part.old).threads (S.own part.new) (outcome_told E.told result payload.new.parcel) }
+    ensures done { IsDoneWhole
+        (asked_edit (sleep_kernel E.rules (S.opening m.old)) (S.cpu_of part.old) buffer
+        (E.meant edit payload.old.parcel))
+        (S.seen m.old) (S.seen m.new) (S.own part.old).threads (S.own part.new)
+        (outcome_told E.told result payload.new.parcel) }
     ensures fits { S.Fits part.new m.new }
     ensures cpu { S.cpu_of part.new ≡ S.cpu_of part.old }
     ensures none { S.under_way part.new ≡ None }
@@ -43,7 +47,8 @@ where
     ensures room { S.room m.old ≤ S.room m.new + 2 }
     ensures acts { (c : CpuId) → S.ActsFor m.old c → S.ActsFor m.new c }
     ensures others { (p : S) → S.cpu_of p ≢ S.cpu_of part.old → S.Fits p m.old → S.Fits p m.new }
-    ensures holders { (c : CpuId) → c ≢ S.cpu_of part.old → S.ActsFor m.old c → S.MayHold m.new c → S.MayHold m.old c }
+    ensures holders { (c : CpuId) → c ≢ S.cpu_of part.old → S.ActsFor m.old c → S.MayHold m.new c
+        → S.MayHold m.old c }
 {
     let parcel = payload.parcel;
     match part.poll(m, BufferCall { buffer, edit }, payload) {

@@ -1,6 +1,7 @@
 -- The words of a lock after so many spots (ticket indices) were taken, and after so many releases.
 use Rattle.std.specs.Prelude.{◌≡◌, ℕ, ◌%◌, ◌^◌, ◌<◌, length, slice_index}
-use Rattle.{event_log.specs.{declared.ids.TheConstants.CPUS, Grants.WordFits}, plain_machine.specs.declared.line_words.{LockWords.LockWords, Granting.Granting}}
+use Rattle.event_log.specs.{declared.ids.TheConstants.CPUS, Grants.WordFits}
+use Rattle.plain_machine.specs.declared.line_words.{LockWords.LockWords, Granting.Granting}
 
 -- the words of a ticket lock hold the two counts modulo 2^64
 abbrev pub TicketsFit : ℕ → ℕ → LockWords → Type 0

@@ -1,7 +1,8 @@
 -- The events that the notes (compressed entries) of the stored log represent.
 use Rattle.std.specs.Prelude.{ℕ, ◌%◌, ◌^◌, List, [], ◌∷◌, ◌++◌, replicate}
-use Rattle.event_log.specs.{declared.events.Event.Event, Grants.ticket_in, WordsLog.{lock_phase, draws, frees}}
-use Rattle.plain_machine.specs.declared.notes.Note.{Note, TheVariants.{Draw, Look, Free, Again}}
+use Rattle.event_log.specs.{declared.events.Event.Event, Grants.ticket_in, WordsLog.lock_phase}
+use Rattle.{event_log.specs.WordsLog.{draws, frees}, plain_machine.specs.declared.notes.Note.Note}
+use Rattle.plain_machine.specs.declared.notes.Note.TheVariants.{Draw, Look, Free, Again}
 use Rattle.event_log.specs.declared.events.Event.TheVariants as event
 
 -- the past with the newest event so many times more
@@ -14,7 +15,8 @@ repeated times (newest ∷ past) = replicate times newest ++ newest ∷ past
 -- A `free` has the newest mark.
 abbrev pub with_note : {M : Type 0} → Note → List M → List (Event M) → List (Event M)
 with_note (Draw cpu lock) marks past = event.Draw cpu lock (draws lock past % 2 ^ 64) ∷ past
-with_note (Look cpu lock) marks past = event.Look cpu lock (ticket_in (lock_phase cpu past)) (frees lock past % 2 ^ 64) ∷ past
+with_note (Look cpu lock) marks past =
+    event.Look cpu lock (ticket_in (lock_phase cpu past)) (frees lock past % 2 ^ 64) ∷ past
 with_note (Free cpu lock) [] past = past
 with_note (Free cpu lock) (mark ∷ marks) past = event.Free cpu lock mark ∷ past
 with_note (Again times) marks past = repeated times past

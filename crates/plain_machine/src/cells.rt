@@ -25,7 +25,8 @@ pub struct Cell<K, B> {
 pub fn take<K: LineWords, B>(cells: &mut Vec<Option<Cell<K, B>>>, lock: LockId) -> u64
     requires { IsSome (cell_at cells.old.items lock) }
     ensures { IfSome (cell_at cells.old.items lock) (λ cell. (words : _)
-        × ((taken given : ℕ) → K.Fit taken given cell.words → (result ≡ taken % 2 ^ 64) × K.Fit (taken + 1) given words)
+        × ((taken given : ℕ) → K.Fit taken given cell.words
+        → (result ≡ taken % 2 ^ 64) × K.Fit (taken + 1) given words)
         × (cells.new.items ≡ with_cell cells.old.items lock (worded_cell cell words))) }
 {
     match &mut cells[lock.number()] {
@@ -46,8 +47,10 @@ pub fn look<K: LineWords, B>(
 ) -> Option<B>
     requires { IsSome (cell_at cells.old.items lock) }
     ensures { IfSome (cell_at cells.old.items lock) (λ cell. (hit : Bool)
-        × ((taken given spot : ℕ) → K.Fit taken given cell.words → given ≤ spot → spot < given + CPUS → ticket ≡ spot % 2 ^ 64 → hit ≡ (given == spot))
-        × (result ≡ (if hit then cell.home else None)) × (cells.new.items ≡ with_cell cells.old.items lock (looked_cell cell hit))) }
+        × ((taken given spot : ℕ) → K.Fit taken given cell.words → given ≤ spot
+        → spot < given + CPUS → ticket ≡ spot % 2 ^ 64 → hit ≡ (given == spot))
+        × (result ≡ (if hit then cell.home else None))
+        × (cells.new.items ≡ with_cell cells.old.items lock (looked_cell cell hit))) }
 {
     match &mut cells[lock.number()] {
         Some(cell) => {
@@ -67,7 +70,9 @@ pub fn look<K: LineWords, B>(
 #[inline(always)]
 pub fn serves<K: LineWords, B>(cells: &Vec<Option<Cell<K, B>>>, lock: LockId, ticket: u64) -> bool
     requires { IsSome (cell_at cells.now.items lock) }
-    ensures { IfSome (cell_at cells.now.items lock) (λ cell. (taken given spot : ℕ) → K.Fit taken given cell.words → given ≤ spot → spot < given + CPUS
+    ensures { IfSome (cell_at cells.now.items lock)
+        (λ cell. (taken given spot : ℕ) → K.Fit taken given cell.words → given ≤ spot
+        → spot < given + CPUS
         → ticket ≡ spot % 2 ^ 64 → result ≡ (given == spot)) }
 {
     match &cells[lock.number()] {
@@ -100,7 +105,8 @@ pub fn give<K: LineWords, B: Drop>(cells: &mut Vec<Option<Cell<K, B>>>, lock: Lo
 /// Requires: the lock is in the table.
 pub fn home<K, B>(cells: &Vec<Option<Cell<K, B>>>, lock: LockId) -> Option<&B>
     requires { IsSome (cell_at cells.now.items lock) }
-    ensures { IfSome (cell_at cells.now.items lock) (λ cell. option_map (λ block. block.now) result ≡ cell.home) }
+    ensures { IfSome (cell_at cells.now.items lock)
+        (λ cell. option_map (λ block. block.now) result ≡ cell.home) }
 {
     match &cells[lock.number()] {
         Some(cell) => cell.home.as_ref(),
@@ -156,7 +162,8 @@ pub fn empty_table<K: Drop, B: Drop>(
 /// Requires: the table has a slot for the lock.
 pub fn put<K: LineWords, B: Drop>(cells: &mut Vec<Option<Cell<K, B>>>, lock: LockId, block: B)
     requires { lock_number lock < length cells.old.items }
-    ensures { (words : _) × K.Fit 0 0 words × (cells.new.items ≡ with_cell cells.old.items lock (given_cell words block)) }
+    ensures { (words : _) × K.Fit 0 0 words
+        × (cells.new.items ≡ with_cell cells.old.items lock (given_cell words block)) }
 {
     cells[lock.number()] = Some(Cell {
         words: K::fresh(),

@@ -17,12 +17,14 @@ pub trait LineWords: Copy + Drop {
 
     /// Takes a spot, and returns its ticket: how many were taken before, modulo 2^64.
     fn take(&mut self) -> u64
-        ensures { (taken given : ℕ) → Fit taken given self.old → (result ≡ taken % 2 ^ 64) × Fit (taken + 1) given self.new };
+        ensures { (taken given : ℕ) → Fit taken given self.old
+            → (result ≡ taken % 2 ^ 64) × Fit (taken + 1) given self.new };
 
     /// Returns whether the spot of this ticket is served. The words determine it exactly among
     /// spots that are as near one another as those of the CPUs of one machine.
     fn serves(&self, ticket: u64) -> bool
-        ensures { (taken given spot : ℕ) → Fit taken given self.now → given ≤ spot → spot < given + CPUS → ticket ≡ spot % 2 ^ 64
+        ensures { (taken given spot : ℕ) → Fit taken given self.now → given ≤ spot
+            → spot < given + CPUS → ticket ≡ spot % 2 ^ 64
             → result ≡ (given == spot) };
 
     /// Releases the lock: the next spot is served.

@@ -61,7 +61,8 @@ impl<M> Notes<M> {
     #[inline(always)]
     pub fn draw(&mut self, cpu: CpuId, lock: LockId)
         requires { 0 < room_left self.old }
-        ensures history { history self.new ≡ event.Draw cpu lock (draws lock (history self.old) % 2 ^ 64) ∷ history self.old }
+        ensures history { history self.new
+            ≡ event.Draw cpu lock (draws lock (history self.old) % 2 ^ 64) ∷ history self.old }
         ensures room { room_left self.old ≡ room_left self.new + 1 }
     {
         self.put(Note::Draw(cpu, lock));
@@ -74,7 +75,8 @@ impl<M> Notes<M> {
     pub fn look(&mut self, cpu: CpuId, lock: LockId)
         requires { 0 < room_left self.old }
         ensures history { history self.new
-            ≡ event.Look cpu lock (ticket_in (lock_phase cpu (history self.old))) (frees lock (history self.old) % 2 ^ 64) ∷ history self.old }
+            ≡ event.Look cpu lock (ticket_in (lock_phase cpu (history self.old)))
+            (frees lock (history self.old) % 2 ^ 64) ∷ history self.old }
         ensures room { room_left self.old ≡ room_left self.new + 1 }
     {
         self.put(Note::Look(cpu, lock));
@@ -87,7 +89,9 @@ impl<M> Notes<M> {
     pub fn looks(&mut self, cpu: CpuId, lock: LockId, looks: usize)
         requires { looks ≤ room_left self.old }
         ensures history { history self.new
-            ≡ replicate looks (event.Look cpu lock (ticket_in (lock_phase cpu (history self.old))) (frees lock (history self.old) % 2 ^ 64))
+            ≡ replicate looks
+            (event.Look cpu lock (ticket_in (lock_phase cpu (history self.old)))
+            (frees lock (history self.old) % 2 ^ 64))
             ++ history self.old }
         ensures room { room_left self.old ≡ room_left self.new + looks }
         ensures still { looks ≡ 0 → self.new ≡ self.old }

@@ -46,7 +46,8 @@ impl<E: SplitEdit, K: LineWords> Plain<E, K> {
         ensures opening { IfOk result (λ w. opened w.opening.value.items ≡ opened blocks.items) }
         ensures room { IfOk result (λ w. room_left w.log ≡ room) }
         ensures acts { IfOk result (λ w. (c : CpuId) → c.0 < CPUS
-            → IsServed K.Fit E.rules (opened w.opening.value.items) (history w.log) w.cells.items c) }
+            → IsServed K.Fit E.rules (opened w.opening.value.items) (history w.log) w.cells.items
+            c) }
     {
         let opening = Snapshot::of(&blocks);
         let log = Notes::with_room(alloc, room)?;
@@ -65,11 +66,13 @@ impl<E: SplitEdit, K: LineWords> Plain<E, K> {
     /// Requires: the holder acts for some CPU, and the lock is one of the machine.
     pub fn home(&self, lock: LockId) -> Option<&E::Block>
         requires acts { (c : CpuId)
-            × IsServed K.Fit E.rules (opened self.now.opening.value.items) (history self.now.log) self.now.cells.items c }
+            × IsServed K.Fit E.rules (opened self.now.opening.value.items) (history self.now.log)
+            self.now.cells.items c }
         requires lock { IsSome (opened self.now.opening.value.items lock) }
         ensures away { IsNone result ↔ SomeoneInside lock (history self.now.log) }
         ensures block { IfSome result (λ block.
-            block_after E.rules.edited (opened self.now.opening.value.items) lock (sections (history self.now.log)) ≡ Some block.now) }
+            block_after E.rules.edited (opened self.now.opening.value.items) lock
+            (sections (history self.now.log)) ≡ Some block.now) }
         ensures table { option_map (λ block. block.now) result ≡ home_at self.now.cells.items lock }
     {
         cells::home(&self.cells, lock)
@@ -87,7 +90,8 @@ impl<E: SplitEdit> Plain<E, LockWords> {
         requires acts { (c : _) × ⟦<Plain<E> as Words>⟧.ActsFor self.now c }
         requires lock { IsSome (⟦<Plain<E> as Words>⟧.opening self.now lock) }
         ensures next { result.next ≡ draws lock (⟦<Plain<E> as Words>⟧.seen self.now) % 2 ^ 64 }
-        ensures serving { result.serving ≡ frees lock (⟦<Plain<E> as Words>⟧.seen self.now) % 2 ^ 64 }
+        ensures serving { result.serving
+            ≡ frees lock (⟦<Plain<E> as Words>⟧.seen self.now) % 2 ^ 64 }
     {
         cells::words(&self.cells, lock)
     }
@@ -103,8 +107,11 @@ impl<E: SplitEdit> Plain<E, Granting> {
     pub fn words(&self, lock: LockId) -> GrantLockWords
         requires acts { (c : _) × ⟦<Plain<E, Granting> as GrantWords>⟧.ActsFor self.now c }
         requires lock { IsSome (⟦<Plain<E, Granting> as GrantWords>⟧.opening self.now lock) }
-        ensures next { result.next ≡ tickets lock (⟦<Plain<E, Granting> as GrantWords>⟧.seen self.now) % 2 ^ 64 }
-        ensures words { (k : ℕ) → k < CPUS → slice_index result.words k ≡ grant_word lock k (⟦<Plain<E, Granting> as GrantWords>⟧.seen self.now) }
+        ensures next { result.next
+            ≡ tickets lock (⟦<Plain<E, Granting> as GrantWords>⟧.seen self.now) % 2 ^ 64 }
+        ensures words { (k : ℕ) → k < CPUS
+            → slice_index result.words k
+            ≡ grant_word lock k (⟦<Plain<E, Granting> as GrantWords>⟧.seen self.now) }
     {
         let granting = cells::words(&self.cells, lock);
         granting.lock
@@ -183,9 +190,11 @@ impl<E: SplitEdit, K: LineWords> OwnedWords for Plain<E, K> {
     fn open(alloc: Global, blocks: Vec<(LockId, E::Block)>, room: usize) -> Result<Self, NoMemory>
         requires distinct { AreDistinct blocks.items }
         ensures seen { IfOk result (λ w. ⟦<Plain<E, K> as Words>⟧.seen w ≡ []) }
-        ensures opening { IfOk result (λ w. ⟦<Plain<E, K> as Words>⟧.opening w ≡ opened blocks.items) }
+        ensures opening { IfOk result
+            (λ w. ⟦<Plain<E, K> as Words>⟧.opening w ≡ opened blocks.items) }
         ensures room { IfOk result (λ w. ⟦<Plain<E, K> as Words>⟧.room w ≡ room) }
-        ensures acts { IfOk result (λ w. (c : _) → c.0 < CPUS → ⟦<Plain<E, K> as Words>⟧.ActsFor w c) }
+        ensures acts { IfOk result
+            (λ w. (c : _) → c.0 < CPUS → ⟦<Plain<E, K> as Words>⟧.ActsFor w c) }
     {
         Plain::open(alloc, blocks, room)
     }

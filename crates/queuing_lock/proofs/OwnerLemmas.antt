@@ -1,6 +1,5 @@
 -- What the owner of a lock may do stays permitted under environment steps.
-use Rattle.std.proofs.Common.{arith}
-use Rattle.std.proofs.Common.{◌≡◌, ◌≢◌, false, List, ◌++◌, Option, Some, None}
+use Rattle.std.proofs.Common.{arith, ◌≡◌, ◌≢◌, false, List, ◌++◌, Option, Some, None}
 use Rattle.event_log.specs.{declared.ids.{BufId.BufId, CpuId.CpuId, LockId.{LockId, TheVariants.Buffer}, Tid.Tid}, History.{AreOthers, IsLawful}}
 use Rattle.layer_traits.specs.declared.{locked.QEdit.{QEdit, TheVariants.{Acquire, Inside, Release}}, moves.WaitList.TheVariants.Sleepers}
 use Rattle.layer_traits.specs.{declared.{queue_edits.QueueBlock.QueueBlock, queues.QueueEvent.QueueEvent}, Layers.QLocking.{IsOwners, LockRules, LockState}}

@@ -1,8 +1,7 @@
 -- A part and its polls, from the private state of the lower part: what is owed below, and what was
 -- done here.
-use Rattle.std.proofs.Common.{arith}
-use Rattle.std.proofs.Common.{◌≡◌, ◌≢◌, true, false, if◌then◌else◌, List, ◌++◌, Option, Some, None, option_map, is_some, map, refl, ap, sym, ◌∙◌, subst, ◌<◌}
-use Rattle.std.proofs.{Common.arith, Math.Path.transport, lemmas.Option.slice_get_within}
+use Rattle.std.proofs.Common.{arith, ◌≡◌, ◌≢◌, true, false, if◌then◌else◌, List, ◌++◌, Option, Some, None, option_map, is_some, map, refl, ap, sym, ◌∙◌, subst}
+use Rattle.std.proofs.{Common.{◌<◌}, Math.Path.transport, lemmas.Option.slice_get_within}
 use Rattle.event_log.specs.{declared.ids.{BufId.BufId, CpuId.CpuId, LockId.{LockId, TheVariants.Buffer}, TheConstants.THREADS, Tid.Tid}, Actions.Action}
 use Rattle.event_log.{specs.{Actions.renamed, History.IsLawful, Sections.renamed_section}, proofs.BoolLemmas.none_of}
 use Rattle.layer_traits.specs.declared.{locked.{QEdit.{QEdit, TheVariants.{Acquire, Inside, Release}}, QOut.QOut}, passes.Pass.Pass, payloads.Parcel.Parcel}

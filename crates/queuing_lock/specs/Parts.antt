@@ -1,22 +1,30 @@
 -- The private state of a part of queuing locks: which thread slept for which lock, and how that
 -- agrees with the locks.
 use Rattle.std.specs.Prelude.{◌≡◌, Bool, true, false, List, Option, Some, None, is_some, slice_set}
-use Rattle.event_log.specs.declared.ids.{BufId.BufId, CpuId.CpuId, LockId.{LockId, TheVariants.Buffer}, Tid.Tid}
-use Rattle.layer_traits.specs.declared.locked.{QEdit.{QEdit, TheVariants.{Acquire, Inside, Release}}, QOut.{QOut, TheVariants.{Acquired, Queued, Did}}}
-use Rattle.layer_traits.specs.declared.{locked.QOut.TheVariants.Released, queue_edits.QueueBlock.QueueBlock, queues.QueueEvent.QueueEvent}
-use Rattle.layer_traits.specs.{declared.{scheds.SchedCall.{SchedCall, TheVariants.{Pass, OnBuffer}}, sleeps.Outcome.Outcome}, Layers.QLocking.LockRules}
-use Rattle.layer_traits.specs.Layers.{QLocking.{LockState, lock_after}, QLockLaw.{HasOrAwaits, IsAcquire, slept_for}, Queues.buffer_sections}
+use Rattle.event_log.specs.declared.ids.{BufId.BufId, CpuId.CpuId, LockId.LockId}
+use Rattle.event_log.specs.declared.ids.{LockId.TheVariants.Buffer, Tid.Tid}
+use Rattle.layer_traits.specs.declared.locked.QEdit.{QEdit, TheVariants.{Acquire, Inside, Release}}
+use Rattle.layer_traits.specs.declared.locked.QOut.{QOut, TheVariants.{Acquired, Queued, Did}}
+use Rattle.layer_traits.specs.declared.locked.QOut.TheVariants.{Released}
+use Rattle.layer_traits.specs.declared.queue_edits.QueueBlock.{QueueBlock}
+use Rattle.layer_traits.specs.declared.{queues.QueueEvent.QueueEvent, scheds.SchedCall.SchedCall}
+use Rattle.layer_traits.specs.declared.scheds.SchedCall.TheVariants.{Pass, OnBuffer}
+use Rattle.layer_traits.specs.{declared.sleeps.Outcome.Outcome, Layers.QLocking.LockRules}
+use Rattle.layer_traits.specs.Layers.{QLocking.{LockState, lock_after}, QLockLaw.HasOrAwaits}
+use Rattle.layer_traits.specs.Layers.{QLockLaw.{IsAcquire, slept_for}, Queues.buffer_sections}
 use Rattle.layer_traits.specs.{Threads.Places.home_of, Blocks.QueueBlocks.{homes_in, inner}}
 
 -- which thread slept for which lock after a call of t with this result: a queued thread sleeps
-abbrev pub slept_left_with : {O : Type 0} → Tid → BufId → List (Option BufId) → QOut O → List (Option BufId)
+abbrev pub slept_left_with : {O : Type 0} → Tid → BufId → List (Option BufId) → QOut O
+    → List (Option BufId)
 slept_left_with t b slept Queued = slice_set slept t.0 (Some b)
 slept_left_with t b slept Acquired = slept
 slept_left_with t b slept (Did out) = slept
 slept_left_with t b slept (Released out) = slept
 
 -- the same, in terms of the outcome of the call
-abbrev pub slept_left_by : {O : Type 0} → Tid → BufId → List (Option BufId) → Outcome (QOut O) → List (Option BufId)
+abbrev pub slept_left_by : {O : Type 0} → Tid → BufId → List (Option BufId) → Outcome (QOut O)
+    → List (Option BufId)
 slept_left_by t b slept outcome = slept_left_with t b slept outcome.out
 
 -- which outcome is passed on, according to the call's result: none if the thread is queued
@@ -45,22 +53,27 @@ is_queued (Released out) = false
 
 -- a thread that slept for the lock of a buffer has this CPU as its home, and owns that lock or
 -- still sleeps for it
-pub record SleptOne {F R B O : Type 0} (rules : LockRules F R B O) (opening : LockId → Option (QueueBlock (LockState B))) (c : CpuId)
+pub record SleptOne {F R B O : Type 0} (rules : LockRules F R B O)
+    (opening : LockId → Option (QueueBlock (LockState B))) (c : CpuId)
     (seen : List (QueueEvent (QEdit F R))) (t : Tid) (b : BufId) : Type 0 where
   pub here : home_of (homes_in opening) t ≡ Some c
   pub awaits : HasOrAwaits t (lock_after rules (inner opening) (Buffer b) (buffer_sections seen))
 
 -- this holds of each thread that slept for a lock
-abbrev pub SleptFits : {F R B O : Type 0} → LockRules F R B O → (LockId → Option (QueueBlock (LockState B))) → CpuId → List (QueueEvent (QEdit F R))
+abbrev pub SleptFits : {F R B O : Type 0} → LockRules F R B O
+    → (LockId → Option (QueueBlock (LockState B))) → CpuId → List (QueueEvent (QEdit F R))
     → List (Option BufId) → Type 0
-SleptFits rules opening c seen slept = (t : Tid) (b : BufId) → slept_for slept t ≡ Some b → SleptOne rules opening c seen t b
+SleptFits rules opening c seen slept =
+    (t : Tid) (b : BufId) → slept_for slept t ≡ Some b → SleptOne rules opening c seen t b
 
 -- what is deferred agrees with the pending call and the hand: only the outcome of a call inside or
 -- of a release is deferred, and none beside a pass
-abbrev pub DeferredFits : {F R O : Type 0} → Option (SchedCall (QEdit F R)) → Option (Outcome (QOut O)) → Option Tid → Type 0
+abbrev pub DeferredFits : {F R O : Type 0} → Option (SchedCall (QEdit F R))
+    → Option (Outcome (QOut O)) → Option Tid → Type 0
 DeferredFits None None hand = Unit {0}
 DeferredFits None (Some outcome) hand = ⊥
 DeferredFits (Some (Pass p)) None hand = Unit {0}
 DeferredFits (Some (Pass p)) (Some outcome) hand = ⊥
 DeferredFits (Some (OnBuffer b e)) None hand = hand ≡ None
-DeferredFits (Some (OnBuffer b e)) (Some outcome) hand = (IsAcquire e → ⊥) × (is_queued outcome.out ≡ false)
+DeferredFits (Some (OnBuffer b e)) (Some outcome) hand =
+    (IsAcquire e → ⊥) × (is_queued outcome.out ≡ false)

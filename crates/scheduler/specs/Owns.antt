@@ -1,9 +1,13 @@
 -- What each change of a CPU's private scheduling state requires, and what a call leaves that
 -- touches nothing shared.
 use Rattle.std.specs.Prelude.{◌≡◌, ◌<◌, false, List, ◌++◌, Option, Some}
-use Rattle.{event_log.specs.declared.ids.{Tid.Tid, TheConstants.THREADS}, thread_blocks.specs.Queues.{is_in, AreApart}}
-use Rattle.layer_traits.specs.declared.{passes.Pass.{Pass, TheVariants.{Switch, YieldNow, Drain, MakeReady, End}}, queue_edits.QueueAnswer.QueueAnswer}
-use Rattle.layer_traits.specs.{declared.{queue_edits.QueueAnswer.TheVariants.{Done, Taken, Answer}, scheds.SchedCall.SchedCall}, Threads.MoveRules.MoveRules}
+use Rattle.event_log.specs.declared.ids.{Tid.Tid, TheConstants.THREADS}
+use Rattle.thread_blocks.specs.Queues.{is_in, AreApart}
+use Rattle.layer_traits.specs.declared.passes.Pass.{Pass, TheVariants.{Switch, YieldNow, Drain}}
+use Rattle.layer_traits.specs.declared.passes.Pass.TheVariants.{MakeReady, End}
+use Rattle.layer_traits.specs.declared.queue_edits.QueueAnswer.{QueueAnswer, TheVariants.Done}
+use Rattle.layer_traits.specs.declared.queue_edits.QueueAnswer.TheVariants.{Taken, Answer}
+use Rattle.layer_traits.specs.{declared.scheds.SchedCall.SchedCall, Threads.MoveRules.MoveRules}
 use Rattle.layer_traits.specs.Threads.{Passes.{switched, finished}, Places.Threads}
 use Rattle.layer_traits.specs.declared.scheds.SchedCall.TheVariants as call
 
@@ -14,7 +18,9 @@ MayFinish own = (t : Tid) → own.current ≡ Some t → (t.0 < THREADS) × (is_
 -- the threads of a queue, and after them the thread that runs, may join the run queue: none of them
 -- is in it
 abbrev pub MayJoin : List Tid → Threads → Type 0
-MayJoin queue own = AreApart queue own.ready × ((t : Tid) → own.current ≡ Some t → (t.0 < THREADS) × (is_in t (own.ready ++ queue) ≡ false))
+MayJoin queue own =
+    AreApart queue own.ready
+    × ((t : Tid) → own.current ≡ Some t → (t.0 < THREADS) × (is_in t (own.ready ++ queue) ≡ false))
 
 -- a thread that was woken may become ready: it is not ready yet
 abbrev pub MaySettle : Option Tid → Threads → Type 0

@@ -23,11 +23,14 @@ pub fn call_beneath<E: Moves>(
     call: SchedCall<E::Handed>,
 ) -> Result<QueueCall<E::Handed>, Pass>
     ensures step { IfOk result (λ step. queue_call homes.now cpu call ≡ Some step) }
-    ensures pass { IfErr result (λ pass. (call ≡ calls.Pass pass) × (queue_call homes.now cpu call ≡ None)) }
+    ensures pass { IfErr result
+        (λ pass. (call ≡ calls.Pass pass) × (queue_call homes.now cpu call ≡ None)) }
     ensures shared { IfOk result (λ step. (payload : Payload)
-        → queue_call homes.now cpu (sched_meant E.meant call payload) ≡ Some (call_meant E.meant step payload)) }
+        → queue_call homes.now cpu (sched_meant E.meant call payload)
+        ≡ Some (call_meant E.meant step payload)) }
     ensures local { IfErr result (λ pass. (payload : Payload)
-        → (sched_meant E.meant call payload ≡ calls.Pass pass) × (queue_call homes.now cpu (sched_meant E.meant call payload) ≡ None)) }
+        → (sched_meant E.meant call payload ≡ calls.Pass pass)
+        × (queue_call homes.now cpu (sched_meant E.meant call payload) ≡ None)) }
 {
     match call {
         SchedCall::Pass(Pass::YieldNow) => Ok(QueueCall::TakeAll(cpu)),

@@ -129,8 +129,10 @@ pub fn take_answer<E: Moves>(
     payload: &mut Payload,
 ) -> SchedAnswer<E::Brought>
     requires { MayTake E.moves (queue_told E.told answer payload.old) own.old }
-    ensures own { own.new ≡ own_by E.moves homes.now cpu (queue_told E.told answer payload.old) own.old }
-    ensures answer { sched_told E.told result payload.new ≡ answer_by (queue_told E.told answer payload.old) }
+    ensures own { own.new ≡ own_by E.moves homes.now cpu (queue_told E.told answer payload.old)
+        own.old }
+    ensures answer { sched_told E.told result payload.new
+        ≡ answer_by (queue_told E.told answer payload.old) }
 {
     match answer {
         BareQueueAnswer::Done => {

@@ -1,6 +1,5 @@
 -- What a poll of the underlying locks leaves, shared queues leave: they have no state.
-use Rattle.std.proofs.Common.{arith}
-use Rattle.std.proofs.Common.{◌≡◌, ℕ, Bool, List, Option, Some, None, if◌then◌else◌, sym, subst}
+use Rattle.std.proofs.Common.{arith, ◌≡◌, ℕ, Bool, List, Option, Some, None, if◌then◌else◌, sym, subst}
 use Rattle.{event_log.specs.{declared.ids.{CpuId.CpuId, LockId.LockId}, Sections.Section}, layer_traits.specs.declared.queue_edits.QueueBlock.QueueBlock}
 use Rattle.layer_traits.specs.{declared.{queue_edits.QueueEdit.QueueEdit, queues.QueueCall.QueueCall}, Polling.Framed.Framed, Protocols.Protocol.section}
 use Rattle.layer_traits.specs.{Blocks.{QueueBlocks.StartsWell, QueueRules.IsProperCall}, Layers.Queues.{queue_edit_of, lock_of}}

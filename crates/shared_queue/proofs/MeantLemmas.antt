@@ -1,8 +1,7 @@
 -- The section of a call that is passed down means that of the call that is meant.
-use Rattle.std.proofs.Common.{arith}
-use Rattle.std.proofs.Common.{◌≡◌, ◌∙◌}
+use Rattle.std.proofs.Common.{arith, ◌≡◌, ◌∙◌}
 use Rattle.{event_log.specs.declared.ids.{CpuId.CpuId, LockId.LockId}, layer_traits.specs.declared.{payloads.Payload.Payload, queue_edits.QueueEdit.QueueEdit}}
-use Rattle.layer_traits.specs.{declared.queues.QueueCall.{QueueCall}, Blocks.Payloads.{call_meant, queue_meant}, Protocols.Protocol.section}
+use Rattle.layer_traits.specs.{declared.queues.QueueCall.QueueCall, Blocks.Payloads.{call_meant, queue_meant}, Protocols.Protocol.section}
 use Rattle.layer_traits.specs.Layers.Queues.{queue_edit_of, lock_of}
 
 module _ {H E : Type 0} (meant : H → Payload → E) (payload : Payload) where

@@ -1,12 +1,11 @@
 -- The locks with which shared queues open are distinct, and each opens with its block.
-use Rattle.std.proofs.Common.{◌≡◌, ◌≤◌, ◌<◌, ℕ, zero, suc, ◌+◌, All, List, [], ◌∷◌, ◌++◌, length, Option, Some, None, IsSome}
-use Rattle.std.proofs.{Common.{if◌then◌else◌, refl, ap, sym, ◌∙◌, subst, arith, append-nil, slice_get}, lemmas.Bool.{eq-eqb, eqb-false, ne_eqb}}
-use Rattle.std.proofs.lemmas.Option.{get_or_from_slice_get, slice_get_within}
+use Rattle.std.proofs.Common.{◌≡◌, ◌≤◌, ◌<◌, ℕ, zero, suc, ◌+◌, All, List, [], ◌∷◌, ◌++◌, length, Option, Some, None, IsSome, if◌then◌else◌, refl, ap, sym, ◌∙◌}
+use Rattle.std.proofs.{Common.{subst, arith, append-nil, slice_get}, lemmas.{Bool.{eq-eqb, eqb-false, ne_eqb}, Option.get_or_from_slice_get}}
+use Rattle.std.proofs.lemmas.Option.{slice_get_within}
 use Rattle.event_log.specs.{declared.ids.{BufId.BufId, CpuId.CpuId, LockId.{LockId, TheVariants.{Pending, Buffer}}, TheConstants.THREADS}, History.same_lock}
-use Rattle.{event_log.proofs.Same.same_lock_true, layer_traits.specs.declared.queue_edits.QueueBlock.{QueueBlock}}
-use Rattle.layer_traits.specs.{Protocols.OneLock.{AreDistinct, IsMissing, opened}, Threads.Places.home_of, Blocks.QueueBlocks.{StartsAs, StartsWell, above_of}}
-use Rattle.{layer_traits.specs.Blocks.QueueBlocks.{homes_in, homes_of, inner}, shared_queue.specs.Opening.{AreEmptyQueues, AreQueues, IsEmptyQueue}}
-use Rattle.shared_queue.specs.Opening.{buffers_from}
+use Rattle.{event_log.proofs.Same.same_lock_true, layer_traits.specs.{declared.queue_edits.QueueBlock.QueueBlock, Protocols.OneLock.{AreDistinct, IsMissing}}}
+use Rattle.layer_traits.specs.{Protocols.OneLock.opened, Threads.Places.home_of, Blocks.QueueBlocks.{StartsAs, StartsWell, above_of, homes_in, homes_of, inner}}
+use Rattle.shared_queue.specs.Opening.{AreEmptyQueues, AreQueues, IsEmptyQueue, buffers_from}
 
 each_within : (n : ℕ) (homes : List CpuId) (i : ℕ) (home : CpuId) → All (λ h. h.0 < n) homes → slice_get homes i ≡ Some home → home.0 < n
 each_within n homes i home within at = grind (arith, get_or_from_slice_get, slice_get_within)

@@ -1,8 +1,11 @@
 -- The locks with which shared queues open: an empty pending queue for each CPU, and a block for
 -- each buffer.
 use Rattle.std.specs.Prelude.{◌≡◌, ◌<◌, ◌≤◌, ℕ, ◌+◌, All, List, [], ◌∷◌, length}
-use Rattle.event_log.specs.declared.ids.{CpuId.CpuId, LockId.{LockId, TheVariants.{Pending, Buffer}}, TheConstants.{BUFFERS, CPUS, THREADS}}
-use Rattle.layer_traits.specs.declared.queue_edits.QueueBlock.{QueueBlock, TheVariants.{Queue, Above}}
+use Rattle.event_log.specs.declared.ids.{CpuId.CpuId, LockId.{LockId, TheVariants.Pending}}
+use Rattle.event_log.specs.declared.ids.{LockId.TheVariants.Buffer, TheConstants.{BUFFERS, CPUS}}
+use Rattle.event_log.specs.declared.ids.TheConstants.{THREADS}
+use Rattle.layer_traits.specs.declared.queue_edits.QueueBlock.{QueueBlock, TheVariants.Queue}
+use Rattle.layer_traits.specs.declared.queue_edits.QueueBlock.TheVariants.{Above}
 
 -- so many CPUs, these homes and so many buffers make a machine: it has a CPU, each home is one of
 -- its CPUs, and all are within the limits
@@ -22,9 +25,11 @@ IsEmptyQueue homes (Above block) = ⊥
 -- these homes
 abbrev pub AreEmptyQueues : {B : Type 0} → List CpuId → ℕ → List (LockId × QueueBlock B) → Type 0
 AreEmptyQueues homes n [] = Unit {0}
-AreEmptyQueues homes n (o ∷ rest) = (o.0 ≡ Pending (record { 0 = n })) × IsEmptyQueue homes o.1 × AreEmptyQueues homes (n + 1) rest
+AreEmptyQueues homes n (o ∷ rest) =
+    (o.0 ≡ Pending (record { 0 = n })) × IsEmptyQueue homes o.1 × AreEmptyQueues homes (n + 1) rest
 
 -- the locks of the buffers from buffer n on, with these blocks
 abbrev pub buffers_from : {B : Type 0} → ℕ → List B → List (LockId × QueueBlock B)
 buffers_from n [] = []
-buffers_from n (block ∷ blocks) = (Buffer (record { 0 = n }), Above block) ∷ buffers_from (n + 1) blocks
+buffers_from n (block ∷ blocks) =
+    (Buffer (record { 0 = n }), Above block) ∷ buffers_from (n + 1) blocks

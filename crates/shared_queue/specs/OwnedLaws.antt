@@ -1,9 +1,13 @@
 -- What is read from a lock's block: a buffer's block or a queue's threads; and which parts observe
 -- blocks.
-use Rattle.{std.specs.Prelude.{List, Option, Some, None}, event_log.specs.{declared.ids.{CpuId.CpuId, LockId.LockId, Tid.Tid}, History.IsLawful}}
-use Rattle.{event_log.specs.Sections.Section, layer_traits.specs.declared.queue_edits.QueueBlock.{QueueBlock, TheVariants.{Queue, Above}}}
-use Rattle.layer_traits.specs.{declared.queue_edits.QueueEdit.QueueEdit, Threads.MoveRules.MoveRules, Protocols.Protocol.Rules, Blocks.QueueBlocks.StartsWell}
-use Rattle.layer_traits.specs.Blocks.QueueRules.{SectionAllowed}
+use Rattle.{std.specs.Prelude.{List, Option, Some, None}, event_log.specs.declared.ids.CpuId.CpuId}
+use Rattle.event_log.specs.{declared.ids.{LockId.LockId, Tid.Tid}, History.IsLawful}
+use Rattle.event_log.specs.Sections.{Section}
+use Rattle.layer_traits.specs.declared.queue_edits.QueueBlock.{QueueBlock, TheVariants.Queue}
+use Rattle.layer_traits.specs.declared.queue_edits.QueueBlock.TheVariants.{Above}
+use Rattle.layer_traits.specs.declared.queue_edits.QueueEdit.{QueueEdit}
+use Rattle.layer_traits.specs.{Threads.MoveRules.MoveRules, Protocols.Protocol.Rules}
+use Rattle.layer_traits.specs.Blocks.{QueueBlocks.StartsWell, QueueRules.SectionAllowed}
 
 -- the block of the layer above, if it is one
 abbrev pub above_in : {B : Type 0} → QueueBlock B → Option B
@@ -17,7 +21,8 @@ queue_in (Above block) = None
 
 -- lawful sections over the blocks of a boot, and the parts that observe blocks. They say which
 -- parts fit, the CPU of each, and when a CPU is in a section
-pub record Observers (P : Type 0) {E B O : Type 0} (rules : Rules E B O) (mv : MoveRules E O) (opening : LockId → Option (QueueBlock B)) : Type 1 where
+pub record Observers (P : Type 0) {E B O : Type 0} (rules : Rules E B O) (mv : MoveRules E O)
+    (opening : LockId → Option (QueueBlock B)) : Type 1 where
   pub past : List (Section (QueueEdit E))
   pub starts : StartsWell opening
   pub lawful : IsLawful (SectionAllowed rules mv opening) past
@@ -25,8 +30,17 @@ pub record Observers (P : Type 0) {E B O : Type 0} (rules : Rules E B O) (mv : M
   pub cpu_of : P → CpuId
   pub IsInside : CpuId → Type 0
 
-abbrev pub observers : {P E B O : Type 0} (rules : Rules E B O) (mv : MoveRules E O) (opening : LockId → Option (QueueBlock B))
-    (past : List (Section (QueueEdit E))) → StartsWell opening → IsLawful (SectionAllowed rules mv opening) past → (P → Type 0) → (P → CpuId)
+abbrev pub observers : {P E B O : Type 0} (rules : Rules E B O) (mv : MoveRules E O)
+    (opening : LockId → Option (QueueBlock B))
+    (past : List (Section (QueueEdit E))) → StartsWell opening
+    → IsLawful (SectionAllowed rules mv opening) past → (P → Type 0) → (P → CpuId)
     → (CpuId → Type 0) → Observers P rules mv opening
 observers rules mv opening past starts lawful Fits cpu_of IsInside =
-    record { past = past; starts = starts; lawful = lawful; Fits = Fits; cpu_of = cpu_of; IsInside = IsInside }
+    record {
+      past = past;
+      starts = starts;
+      lawful = lawful;
+      Fits = Fits;
+      cpu_of = cpu_of;
+      IsInside = IsInside;
+    }

@@ -54,8 +54,10 @@ pub fn queue_blocks<B: Drop>(
     ensures distinct { IfOk result (λ locks. AreDistinct locks.items) }
     ensures starts { IfOk result (λ locks. StartsWell (opened locks.items)) }
     ensures homes { IfOk result (λ locks. homes_in (opened locks.items) ≡ homes.now) }
-    ensures queues { IfOk result (λ locks. (c : _) → c.0 < cpus → IsSome (opened locks.items (Pending c))) }
-    ensures blocks { IfOk result (λ locks. (b : _) → inner (opened locks.items) (Buffer b) ≡ slice_get blocks.items b.0) }
+    ensures queues { IfOk result
+        (λ locks. (c : _) → c.0 < cpus → IsSome (opened locks.items (Pending c))) }
+    ensures blocks { IfOk result
+        (λ locks. (b : _) → inner (opened locks.items) (Buffer b) ≡ slice_get blocks.items b.0) }
 {
     let mut locks = empty_queues(alloc, cpus, homes, blocks.len())?;
     let mut number = 0u8;

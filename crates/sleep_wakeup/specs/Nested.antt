@@ -1,9 +1,14 @@
 -- A section's edit with the waiting lists of its lock, as an edit of what the lock guards.
-use Rattle.{std.specs.Prelude.{List, [], Option, map, option_map}, event_log.specs.{declared.ids.LockId.LockId, Sections.{Section, renamed_section}}}
-use Rattle.layer_traits.specs.declared.{moves.WaitList.TheVariants.{Sleepers, Receivers, Senders}, payloads.{Parcel.Parcel, Payload.Payload}}
-use Rattle.layer_traits.specs.{declared.sleeps.Outcome.Outcome, Threads.MoveRules.MoveRules, Blocks.Payloads.outcome_told, Protocols.Protocol.Rules}
-use Rattle.layer_traits.specs.Layers.Sleeping.{IsAwake, NobodySleeps, SleepRules, SleepState, wait_list_after, sleep_answer}
-use Rattle.{sleep_wakeup.specs.declared.edits.{SleepBlock.SleepBlock, SleepEdit.SleepEdit}, thread_blocks.specs.Queues.first}
+use Rattle.std.specs.Prelude.{List, [], Option, map, option_map}
+use Rattle.event_log.specs.{declared.ids.LockId.LockId, Sections.{Section, renamed_section}}
+use Rattle.layer_traits.specs.declared.moves.WaitList.TheVariants.{Sleepers, Receivers, Senders}
+use Rattle.layer_traits.specs.declared.payloads.{Parcel.Parcel, Payload.Payload}
+use Rattle.layer_traits.specs.{declared.sleeps.Outcome.Outcome, Threads.MoveRules.MoveRules}
+use Rattle.layer_traits.specs.{Blocks.Payloads.outcome_told, Protocols.Protocol.Rules}
+use Rattle.layer_traits.specs.Layers.Sleeping.{IsAwake, NobodySleeps, SleepRules, SleepState}
+use Rattle.layer_traits.specs.Layers.Sleeping.{wait_list_after, sleep_answer}
+use Rattle.sleep_wakeup.specs.declared.edits.{SleepBlock.SleepBlock, SleepEdit.SleepEdit}
+use Rattle.thread_blocks.specs.Queues.{first}
 
 -- the edit of the layer above
 abbrev pub slept_edit : {E : Type 0} → SleepEdit E → E
@@ -24,14 +29,21 @@ resting above = record { sleepers = []; receivers = []; senders = []; above = ab
 
 -- a block with its waiting lists as lists of threads
 abbrev pub state_of : {B : Type 0} → SleepBlock B → SleepState B
-state_of block = record { sleepers = block.sleepers; receivers = block.receivers; senders = block.senders; above = block.above }
+state_of block =
+    record {
+      sleepers = block.sleepers;
+      receivers = block.receivers;
+      senders = block.senders;
+      above = block.above;
+    }
 
 -- the opening blocks in this form
 abbrev pub states : {B : Type 0} → (LockId → Option (SleepBlock B)) → LockId → Option (SleepState B)
 states opening lock = option_map state_of (opening lock)
 
 -- the block that an edit leaves
-abbrev pub nested_edited : {E B O : Type 0} → SleepRules E B O → SleepEdit E → SleepBlock B → SleepBlock B
+abbrev pub nested_edited : {E B O : Type 0} → SleepRules E B O → SleepEdit E → SleepBlock B
+    → SleepBlock B
 nested_edited rules d block = record {
   sleepers = wait_list_after rules Sleepers d.edit (state_of block) block.sleepers;
   receivers = wait_list_after rules Receivers d.edit (state_of block) block.receivers;
@@ -40,21 +52,36 @@ nested_edited rules d block = record {
 }
 
 -- the edit's result
-abbrev pub nested_answer : {E B O : Type 0} → SleepRules E B O → SleepEdit E → SleepBlock B → Outcome O
+abbrev pub nested_answer : {E B O : Type 0} → SleepRules E B O → SleepEdit E → SleepBlock B
+    → Outcome O
 nested_answer rules d block = sleep_answer rules d.edit (state_of block)
 
 -- an edit keeps the protocol: no thread was asleep at the opening, the edit's caller is awake, and
 -- the layer above allows it
-pub record NestedAllowed {E B O : Type 0} (rules : SleepRules E B O) (opening : LockId → Option (SleepBlock B)) (past : List (Section (SleepEdit E)))
+pub record NestedAllowed {E B O : Type 0} (rules : SleepRules E B O)
+    (opening : LockId → Option (SleepBlock B)) (past : List (Section (SleepEdit E)))
     (s : Section (SleepEdit E)) : Type 0 where
   pub start : NobodySleeps (states opening)
-  pub awake : IsAwake rules (states opening) (map (renamed_section slept_edit) past) (renamed_section slept_edit s)
-  pub upper : rules.allowed (states opening) (map (renamed_section slept_edit) past) (renamed_section slept_edit s)
+  pub awake : IsAwake rules (states opening) (map (renamed_section slept_edit) past)
+      (renamed_section slept_edit s)
+  pub upper : rules.allowed (states opening) (map (renamed_section slept_edit) past)
+      (renamed_section slept_edit s)
 
 -- what the edits mean
-abbrev pub nested_rules : {E B O : Type 0} → SleepRules E B O → Rules (SleepEdit E) (SleepBlock B) (Outcome O)
-nested_rules rules = record { edited = nested_edited rules; answer = nested_answer rules; allowed = NestedAllowed rules }
+abbrev pub nested_rules : {E B O : Type 0} → SleepRules E B O
+    → Rules (SleepEdit E) (SleepBlock B) (Outcome O)
+nested_rules rules =
+    record {
+      edited = nested_edited rules;
+      answer = nested_answer rules;
+      allowed = NestedAllowed rules;
+    }
 
 -- how they move threads
 abbrev pub nested_moves : {E B O : Type 0} → SleepRules E B O → MoveRules (SleepEdit E) (Outcome O)
-nested_moves rules = record { caller = λ d. rules.caller d.edit; slept = λ outcome. rules.joins outcome.out; woke = λ outcome. outcome.woke }
+nested_moves rules =
+    record {
+      caller = λ d. rules.caller d.edit;
+      slept = λ outcome. rules.joins outcome.out;
+      woke = λ outcome. outcome.woke;
+    }

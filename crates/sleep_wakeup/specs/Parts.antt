@@ -1,9 +1,15 @@
 -- A part of the layer: the pending call, its private state, and what the scheduler's result leaves.
-use Rattle.std.specs.Prelude.{◌≡◌, Bool, not, ◌&&◌, Option, Some, None, is_some, option_map, if◌then◌else◌}
-use Rattle.{event_log.specs.declared.ids.{BufId.BufId, Tid.Tid}, layer_traits.specs.declared.{passes.Pass.TheVariants.MakeReady, payloads.Parcel.Parcel}}
-use Rattle.layer_traits.specs.declared.{scheds.{SchedCall.SchedCall, SchedAnswer.{SchedAnswer, TheVariants.{Done, Answer}}}, sleeps.Outcome.Outcome}
-use Rattle.layer_traits.specs.{Blocks.Payloads.outcome_told, Threads.Places.Threads, Views.Renaming.renamed_sched, Layers.SleepLaw.Sleeping}
-use Rattle.sleep_wakeup.specs.{declared.{edits.SleepEdit.SleepEdit, deferred.DeferredOutcome.DeferredOutcome}, Nested.slept_edit}
+use Rattle.std.specs.Prelude.{◌≡◌, Bool, not, ◌&&◌, Option, Some, None, is_some, option_map}
+use Rattle.std.specs.Prelude.{if◌then◌else◌}
+use Rattle.event_log.specs.declared.ids.{BufId.BufId, Tid.Tid}
+use Rattle.layer_traits.specs.declared.{passes.Pass.TheVariants.MakeReady, payloads.Parcel.Parcel}
+use Rattle.layer_traits.specs.declared.scheds.{SchedCall.SchedCall, SchedAnswer.SchedAnswer}
+use Rattle.layer_traits.specs.declared.scheds.SchedAnswer.TheVariants.{Done, Answer}
+use Rattle.layer_traits.specs.{declared.sleeps.Outcome.Outcome, Blocks.Payloads.outcome_told}
+use Rattle.layer_traits.specs.{Threads.Places.Threads, Views.Renaming.renamed_sched}
+use Rattle.layer_traits.specs.Layers.SleepLaw.{Sleeping}
+use Rattle.sleep_wakeup.specs.declared.edits.SleepEdit.{SleepEdit}
+use Rattle.sleep_wakeup.specs.{declared.deferred.DeferredOutcome.DeferredOutcome, Nested.slept_edit}
 use Rattle.layer_traits.specs.declared.scheds.SchedCall.TheVariants as call
 
 -- an edit of the layer above as an edit here
@@ -18,7 +24,8 @@ pub record Deferred (E O : Type 0) : Type 0 where
 
 -- what a deferred outcome reports, given its parcel
 abbrev pub deferred_told : {E B O : Type 0} → (B → Parcel → O) → DeferredOutcome E B → Deferred E O
-deferred_told told k = record { buffer = k.buffer; edit = k.edit; outcome = outcome_told told k.outcome k.parcel }
+deferred_told told k =
+    record { buffer = k.buffer; edit = k.edit; outcome = outcome_told told k.outcome k.parcel }
 
 -- the outcome of a deferred section
 abbrev pub outcome_in : {E O : Type 0} → Option (Deferred E O) → Option (Outcome O)
@@ -29,13 +36,15 @@ abbrev pub own_of : {E O : Type 0} → Option (Deferred E O) → Threads → Sle
 own_of deferred threads = record { threads = threads; deferred = outcome_in deferred }
 
 -- the pending call: the section whose outcome is deferred, or otherwise the scheduler's call
-abbrev pub under_of : {E O : Type 0} → Option (Deferred E O) → Option (SchedCall (SleepEdit E)) → Option (SchedCall E)
+abbrev pub under_of : {E O : Type 0} → Option (Deferred E O) → Option (SchedCall (SleepEdit E))
+    → Option (SchedCall E)
 under_of None under = option_map (renamed_sched slept_edit) under
 under_of (Some k) under = Some (call.OnBuffer k.buffer k.edit)
 
 -- an outcome is deferred only while a thread is in the hand. The scheduler's call, if there is one,
 -- then forwards that thread to its home CPU. While a section is under way the hand is empty
-abbrev pub SectionDeferredFits : {E O : Type 0} → Option (Deferred E O) → Option (SchedCall (SleepEdit E)) → Option Tid → Type 0
+abbrev pub SectionDeferredFits : {E O : Type 0} → Option (Deferred E O)
+    → Option (SchedCall (SleepEdit E)) → Option Tid → Type 0
 SectionDeferredFits None None hand = Unit {0}
 SectionDeferredFits None (Some (call.Pass p)) hand = Unit {0}
 SectionDeferredFits None (Some (call.OnBuffer b d)) hand = hand ≡ None
@@ -49,18 +58,23 @@ abbrev pub must_wait : {O : Type 0} → Outcome O → Option Tid → Bool
 must_wait outcome hand = not outcome.slept && is_some hand
 
 -- what is deferred after the scheduler's result, with this parcel in the payload
-abbrev pub deferred_of_answer : {E B : Type 0} → Option Tid → BufId → E → SchedAnswer (Outcome B) → Parcel → Option (DeferredOutcome E B)
+abbrev pub deferred_of_answer : {E B : Type 0} → Option Tid → BufId → E → SchedAnswer (Outcome B)
+    → Parcel → Option (DeferredOutcome E B)
 deferred_of_answer hand b e Done parcel = None
 deferred_of_answer hand b e (Answer outcome) parcel =
-    if must_wait outcome hand then Some (record { buffer = b; edit = e; outcome = outcome; parcel = parcel }) else None
+    if must_wait outcome hand
+    then Some (record { buffer = b; edit = e; outcome = outcome; parcel = parcel }) else None
 
 -- what is returned after the scheduler's result
-abbrev pub answer_reported : {E B : Type 0} → Option (DeferredOutcome E B) → Option Tid → SchedAnswer (Outcome B) → Option (Outcome B)
+abbrev pub answer_reported : {E B : Type 0} → Option (DeferredOutcome E B) → Option Tid
+    → SchedAnswer (Outcome B) → Option (Outcome B)
 answer_reported deferred hand Done = option_map (λ k. k.outcome) deferred
-answer_reported deferred hand (Answer outcome) = if must_wait outcome hand then None else Some outcome
+answer_reported deferred hand (Answer outcome) =
+    if must_wait outcome hand then None else Some outcome
 
 -- the parcel in the payload after it: that of the deferred outcome, if it is returned
-abbrev pub parcel_reported : {E B : Type 0} → Option (DeferredOutcome E B) → SchedAnswer (Outcome B) → Parcel → Parcel
+abbrev pub parcel_reported : {E B : Type 0} → Option (DeferredOutcome E B) → SchedAnswer (Outcome B)
+    → Parcel → Parcel
 parcel_reported None Done parcel = parcel
 parcel_reported (Some k) Done parcel = k.parcel
 parcel_reported deferred (Answer outcome) parcel = parcel

@@ -51,7 +51,8 @@ pub(crate) fn complete<E, B: Drop>(
     answer: SchedAnswer<Outcome<B>>,
     payload: &mut Payload,
 ) -> Option<Outcome<B>>
-    ensures deferred { deferred.new ≡ deferred_of_answer hand buffer edit answer payload.old.parcel }
+    ensures deferred { deferred.new
+        ≡ deferred_of_answer hand buffer edit answer payload.old.parcel }
     ensures answer { result ≡ answer_reported deferred.old hand answer }
     ensures parcel { payload.new.parcel ≡ parcel_reported deferred.old answer payload.old.parcel }
 {
@@ -81,7 +82,8 @@ pub(crate) fn complete_home<E, B: Drop>(
     answer: SchedAnswer<Outcome<B>>,
     payload: &mut Payload,
 ) -> Option<Outcome<B>>
-    ensures deferred { deferred.new ≡ deferred_of_answer hand buffer edit answer payload.old.parcel }
+    ensures deferred { deferred.new
+        ≡ deferred_of_answer hand buffer edit answer payload.old.parcel }
     ensures answer { result ≡ answer_reported deferred.old hand answer }
     ensures parcel { payload.new.parcel ≡ parcel_reported deferred.old answer payload.old.parcel }
 {
@@ -114,7 +116,8 @@ fn keep<E, B: Drop>(
     outcome: Outcome<B>,
     payload: &Payload,
 )
-    ensures { deferred.new ≡ Some (record { buffer = buffer; edit = edit; outcome = outcome; parcel = payload.now.parcel }) }
+    ensures { deferred.new ≡ Some
+        (record { buffer = buffer; edit = edit; outcome = outcome; parcel = payload.now.parcel }) }
 {
     *deferred = Some(DeferredOutcome {
         buffer,

@@ -36,18 +36,32 @@ fn send_home<E: Sleeps, S: Layer<SchedLaw<SleepEdit<E>>>>(
 ) -> Option<SchedAnswer<Outcome<E::Brought>>>
     requires fits { S.Fits lower.old m.old }
     requires room { 0 < S.room m.old }
-    requires call { MaySched (kernel (nested_rules E.rules) (nested_moves E.rules) (S.opening m.old)) (S.cpu_of lower.old) (S.seen m.old) (S.own lower.old)
+    requires call { MaySched
+        (kernel (nested_rules E.rules) (nested_moves E.rules) (S.opening m.old))
+        (S.cpu_of lower.old) (S.seen m.old) (S.own lower.old)
         (S.under_way lower.old) (call.Pass (MakeReady t)) }
     ensures call { S.under_way lower.new ≡ until_answered result (call.Pass (MakeReady t)) }
     ensures prompt { S.IsWhole → IsSome result }
-    ensures seen { SchedPolled (kernel (nested_rules E.rules) (nested_moves E.rules) (S.opening m.old)) (S.ActsFor m.old) (S.cpu_of lower.old)
+    ensures seen { SchedPolled
+        (kernel (nested_rules E.rules) (nested_moves E.rules) (S.opening m.old)) (S.ActsFor m.old)
+        (S.cpu_of lower.old)
         (call.Pass (MakeReady t))
-        (told_by (sched_told (nested_told E.told)) result payload.new) (S.seen m.old) (S.seen m.new) (S.own lower.old) (S.own lower.new) }
-    ensures framed { Framed S.Fits S.cpu_of S.opening S.site S.room S.ActsFor S.MayHold lower.old lower.new m.old m.new }
+        (told_by (sched_told (nested_told E.told)) result payload.new) (S.seen m.old) (S.seen m.new)
+        (S.own lower.old) (S.own lower.new) }
+    ensures framed { Framed S.Fits S.cpu_of S.opening S.site S.room S.ActsFor S.MayHold lower.old
+        lower.new m.old m.new }
     ensures outside { OnSome result (S.IsOutside m.new (S.cpu_of lower.old)) }
-    ensures follows { S.IsStepwise → Follows (S.ActsFor m.old) (table_of (queue_rules (nested_rules E.rules) (nested_moves E.rules))) (S.opening m.old)
-        (S.cpu_of lower.old) (sched_plan (nested_moves E.rules) (homes_in (S.opening m.old)) (S.cpu_of lower.old) (call.Pass (MakeReady t)) (S.own lower.old))
-        (S.acts m.old) (S.acts m.new) (record { own = S.own lower.new; answer = told_by (sched_told (nested_told E.told)) result payload.new }) }
+    ensures follows { S.IsStepwise
+        → Follows (S.ActsFor m.old)
+        (table_of (queue_rules (nested_rules E.rules) (nested_moves E.rules))) (S.opening m.old)
+        (S.cpu_of lower.old)
+        (sched_plan (nested_moves E.rules) (homes_in (S.opening m.old)) (S.cpu_of lower.old)
+        (call.Pass (MakeReady t)) (S.own lower.old))
+        (S.acts m.old) (S.acts m.new)
+        (record {
+          own = S.own lower.new;
+          answer = told_by (sched_told (nested_told E.told)) result payload.new;
+        }) }
 {
     lower.poll(m, SchedCall::Pass(Pass::MakeReady(t)), payload)
 }

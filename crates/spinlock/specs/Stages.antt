@@ -1,8 +1,11 @@
 -- The stage of a section (its control state), in terms of the actions at the locks.
 use Rattle.std.specs.Prelude.{◌≡◌, ◌%◌, ◌^◌, List, Option, Some, None, IsSome, if◌then◌else◌}
-use Rattle.event_log.specs.{declared.ids.{CpuId.CpuId, LockId.LockId}, Actions.{Action, Rests, Waits, Holds, phase, spot_of}, History.same_lock}
-use Rattle.{event_log.specs.Sections.{Section, block_after, sections_in}, layer_traits.specs.Protocols.Protocol.{Rules, StaysAllowed, section}}
-use Rattle.spinlock.specs.declared.stages.TicketPhase.{TicketPhase, TheVariants.{Out, Waiting, Holding}}
+use Rattle.event_log.specs.{declared.ids.{CpuId.CpuId, LockId.LockId}, Actions.{Action, Rests}}
+use Rattle.event_log.specs.{Actions.{Waits, Holds, phase, spot_of}, History.same_lock}
+use Rattle.event_log.specs.Sections.{Section, block_after, sections_in}
+use Rattle.layer_traits.specs.Protocols.Protocol.{Rules, StaysAllowed, section}
+use Rattle.spinlock.specs.declared.stages.TicketPhase.{TicketPhase, TheVariants.{Out, Waiting}}
+use Rattle.spinlock.specs.declared.stages.TicketPhase.TheVariants.{Holding}
 
 -- the section that is under way at a stage
 abbrev pub stage_section : {E B : Type 0} → CpuId → TicketPhase E B → Option (Section E)
@@ -27,11 +30,13 @@ held_block lock (Holding at edit block) = if same_lock lock at then Some block e
 -- coupling invariant of a stage: it is where the actions leave the CPU. The CPU is at rest, waits
 -- with its ticket, or has the lock that it holds and that lock's block. The ticket is that of its
 -- ticket index. The lock of a waiting section exists, and the section under way stays allowed
-abbrev pub StageFits : {E B O : Type 0} → Rules E B O → (LockId → Option B) → List (Action E) → CpuId → TicketPhase E B → Type 0
+abbrev pub StageFits : {E B O : Type 0} → Rules E B O → (LockId → Option B) → List (Action E)
+    → CpuId → TicketPhase E B → Type 0
 StageFits rules opening acts cpu Out = phase cpu acts ≡ Rests
 StageFits rules opening acts cpu (Waiting lock edit ticket) =
     ((phase cpu acts ≡ Waits lock) × (ticket ≡ spot_of cpu acts % 2 ^ 64))
-    × StaysAllowed (rules.allowed opening) (sections_in acts) (section cpu lock edit) × IsSome (opening lock)
+    × StaysAllowed (rules.allowed opening) (sections_in acts) (section cpu lock edit)
+    × IsSome (opening lock)
 StageFits rules opening acts cpu (Holding lock edit block) =
     (phase cpu acts ≡ Holds lock)
     × StaysAllowed (rules.allowed opening) (sections_in acts) (section cpu lock edit)

@@ -63,7 +63,8 @@ pub trait FairLock<LockProtocol> {
         requires lock { IsSome (opening self.old lock) }
         requires room { 0 < room self.old }
         requires rests { phase cpu (acts self.old) ≡ Rests }
-        ensures adds { Adds (ActsFor self.old) cpu_of_action (Take cpu lock) (acts self.old) (acts self.new) }
+        ensures adds { Adds (ActsFor self.old) cpu_of_action (Take cpu lock) (acts self.old)
+            (acts self.new) }
         ensures ticket { result ≡ spot_of cpu (acts self.new) % 2 ^ 64 }
         ensures opening { opening self.new ≡ opening self.old }
         ensures site { site self.new ≡ site self.old }
@@ -85,11 +86,14 @@ pub trait FairLock<LockProtocol> {
         requires room { 0 < room self.old }
         requires waits { phase cpu (acts self.old) ≡ Waits lock }
         requires ticket { ticket ≡ spot_of cpu (acts self.old) % 2 ^ 64 }
-        ensures adds { (hit : Bool) × Adds (ActsFor self.old) cpu_of_action (Try cpu lock hit) (acts self.old) (acts self.new) }
+        ensures adds { (hit : Bool)
+            × Adds (ActsFor self.old) cpu_of_action (Try cpu lock hit) (acts self.old)
+            (acts self.new) }
         ensures hits { MatchOption result
             (phase cpu (acts self.new) ≡ Waits lock)
             (λ block. (phase cpu (acts self.new) ≡ Holds lock)
-            × (block_after Self.Edit.rules.edited (opening self.new) lock (sections_in (acts self.new)) ≡ Some block)) }
+            × (block_after Self.Edit.rules.edited (opening self.new) lock
+            (sections_in (acts self.new)) ≡ Some block)) }
         ensures opening { opening self.new ≡ opening self.old }
         ensures site { site self.new ≡ site self.old }
         ensures room { room self.old ≤ room self.new + 1 }
@@ -136,9 +140,12 @@ pub trait FairLock<LockProtocol> {
         requires room { 0 < room self.old }
         requires holds { phase cpu (acts self.old) ≡ Holds lock }
         requires edited { option_map (Self.Edit.rules.edited (edit_in mark))
-            (block_after Self.Edit.rules.edited (opening self.old) lock (sections_in (acts self.old))) ≡ Some block }
-        requires allowed { StaysAllowed (Self.Edit.rules.allowed (opening self.old)) (sections_in (acts self.old)) (section cpu lock (edit_in mark)) }
-        ensures adds { Adds (ActsFor self.old) cpu_of_action (Give cpu lock (edit_in mark)) (acts self.old) (acts self.new) }
+            (block_after Self.Edit.rules.edited (opening self.old) lock
+            (sections_in (acts self.old))) ≡ Some block }
+        requires allowed { StaysAllowed (Self.Edit.rules.allowed (opening self.old))
+            (sections_in (acts self.old)) (section cpu lock (edit_in mark)) }
+        ensures adds { Adds (ActsFor self.old) cpu_of_action (Give cpu lock (edit_in mark))
+            (acts self.old) (acts self.new) }
         ensures opening { opening self.new ≡ opening self.old }
         ensures site { site self.new ≡ site self.old }
         ensures room { room self.old ≤ room self.new + 1 }

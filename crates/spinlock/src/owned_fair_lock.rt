@@ -62,9 +62,11 @@ impl<W: OwnedWords> OwnedFairLock<UsesTickets> for W {
     ) -> Result<Self, NoMemory>
         requires distinct { AreDistinct blocks.items }
         ensures acts { IfOk result (λ m. ⟦<W as FairLock<UsesTickets>>⟧.acts m ≡ []) }
-        ensures opening { IfOk result (λ m. ⟦<W as FairLock<UsesTickets>>⟧.opening m ≡ opened blocks.items) }
+        ensures opening { IfOk result
+            (λ m. ⟦<W as FairLock<UsesTickets>>⟧.opening m ≡ opened blocks.items) }
         ensures room { IfOk result (λ m. ⟦<W as FairLock<UsesTickets>>⟧.room m ≡ room) }
-        ensures owned { IfOk result (λ m. (c : _) → c.0 < CPUS → ⟦<W as FairLock<UsesTickets>>⟧.ActsFor m c) }
+        ensures owned { IfOk result
+            (λ m. (c : _) → c.0 < CPUS → ⟦<W as FairLock<UsesTickets>>⟧.ActsFor m c) }
     {
         <W as OwnedWords>::open(alloc, blocks, room)
     }
@@ -89,9 +91,11 @@ impl<W: OwnedGrantWords> OwnedFairLock<UsesGrants> for W {
     ) -> Result<Self, NoMemory>
         requires distinct { AreDistinct blocks.items }
         ensures acts { IfOk result (λ m. ⟦<W as FairLock<UsesGrants>>⟧.acts m ≡ []) }
-        ensures opening { IfOk result (λ m. ⟦<W as FairLock<UsesGrants>>⟧.opening m ≡ opened blocks.items) }
+        ensures opening { IfOk result
+            (λ m. ⟦<W as FairLock<UsesGrants>>⟧.opening m ≡ opened blocks.items) }
         ensures room { IfOk result (λ m. ⟦<W as FairLock<UsesGrants>>⟧.room m ≡ room) }
-        ensures owned { IfOk result (λ m. (c : _) → c.0 < CPUS → ⟦<W as FairLock<UsesGrants>>⟧.ActsFor m c) }
+        ensures owned { IfOk result
+            (λ m. (c : _) → c.0 < CPUS → ⟦<W as FairLock<UsesGrants>>⟧.ActsFor m c) }
     {
         <W as OwnedGrantWords>::open(alloc, blocks, room)
     }

@@ -27,13 +27,17 @@ fn alone<E: Edit, L: LockLayer<E>>(
     requires fits { L.Fits part.old m.old }
     requires lock { IsSome (L.opening m.old lock) }
     requires room { 0 < L.room m.old }
-    requires call { MayPoll (E.rules.allowed (L.opening m.old)) (L.seen m.old) (L.under_way part.old) (section (L.cpu_of part.old) lock edit) }
-    ensures acts { L.acts m.new ≡ next_action (L.cpu_of part.old) lock edit (L.acts m.old) ∷ L.acts m.old }
-    ensures answer { result ≡ reply (table_of E.rules) (L.opening m.old) (L.cpu_of part.old) lock edit (L.acts m.old) }
+    requires call { MayPoll (E.rules.allowed (L.opening m.old)) (L.seen m.old)
+        (L.under_way part.old) (section (L.cpu_of part.old) lock edit) }
+    ensures acts { L.acts m.new
+        ≡ next_action (L.cpu_of part.old) lock edit (L.acts m.old) ∷ L.acts m.old }
+    ensures answer { result
+        ≡ reply (table_of E.rules) (L.opening m.old) (L.cpu_of part.old) lock edit (L.acts m.old) }
     ensures all { (c : CpuId) → c.0 < CPUS → L.ActsFor m.new c }
     ensures fits { L.Fits part.new m.new }
     ensures cpu { L.cpu_of part.new ≡ L.cpu_of part.old }
-    ensures call { L.under_way part.new ≡ (if is_some result then None else Some (section (L.cpu_of part.old) lock edit)) }
+    ensures call { L.under_way part.new
+        ≡ (if is_some result then None else Some (section (L.cpu_of part.old) lock edit)) }
     ensures opening { L.opening m.new ≡ L.opening m.old }
     ensures room { L.room m.old ≤ L.room m.new + 1 }
     ensures outside { OnSome result (L.IsOutside m.new (L.cpu_of part.old)) }
@@ -66,11 +70,14 @@ pub fn whole<E: Edit, L: LockLayer<E>>(
     requires lock { IsSome (L.opening m.old lock) }
     requires room { 2 < L.room m.old }
     requires call { L.under_way part.old ≡ None }
-    requires allowed { StaysAllowed (E.rules.allowed (L.opening m.old)) (L.seen m.old) (section (L.cpu_of part.old) lock edit) }
+    requires allowed { StaysAllowed (E.rules.allowed (L.opening m.old)) (L.seen m.old)
+        (section (L.cpu_of part.old) lock edit) }
     ensures seen { L.seen m.new ≡ section (L.cpu_of part.old) lock edit ∷ L.seen m.old }
-    ensures answer { Answers E.rules (L.opening m.old) (L.seen m.old) (section (L.cpu_of part.old) lock edit) result }
+    ensures answer { Answers E.rules (L.opening m.old) (L.seen m.old)
+        (section (L.cpu_of part.old) lock edit) result }
     ensures acts { L.acts m.new
-        ≡ Give (L.cpu_of part.old) lock edit ∷ Try (L.cpu_of part.old) lock true ∷ Take (L.cpu_of part.old) lock ∷ L.acts m.old }
+        ≡ Give (L.cpu_of part.old) lock edit ∷ Try (L.cpu_of part.old) lock true
+        ∷ Take (L.cpu_of part.old) lock ∷ L.acts m.old }
     ensures rests { (c : CpuId) → phase c (L.acts m.new) ≡ Rests }
     ensures all { (c : CpuId) → c.0 < CPUS → L.ActsFor m.new c }
     ensures fits { L.Fits part.new m.new }

@@ -51,11 +51,14 @@ fn enters<M: FairLock<LockProtocol>, LockProtocol>(
     requires room { 0 < M.room m.old }
     requires waits { phase cpu (M.acts m.old) ≡ Waits lock }
     requires ticket { ticket ≡ spot_of cpu (M.acts m.old) % 2 ^ 64 }
-    ensures adds { (hit : Bool) × Adds (M.ActsFor m.old) cpu_of_action (Try cpu lock hit) (M.acts m.old) (M.acts m.new) }
-    ensures hits { (found : Option M.Edit.Block) × (stage.new ≡ hit_by found stage.old) × MatchOption found
+    ensures adds { (hit : Bool)
+        × Adds (M.ActsFor m.old) cpu_of_action (Try cpu lock hit) (M.acts m.old) (M.acts m.new) }
+    ensures hits { (found : Option M.Edit.Block) × (stage.new ≡ hit_by found stage.old)
+        × MatchOption found
         (phase cpu (M.acts m.new) ≡ Waits lock)
         (λ block. (phase cpu (M.acts m.new) ≡ Holds lock)
-        × (block_after M.Edit.rules.edited (M.opening m.new) lock (sections_in (M.acts m.new)) ≡ Some block)) }
+        × (block_after M.Edit.rules.edited (M.opening m.new) lock (sections_in (M.acts m.new))
+        ≡ Some block)) }
     ensures opening { M.opening m.new ≡ M.opening m.old }
     ensures site { M.site m.new ≡ M.site m.old }
     ensures room { M.room m.old ≤ M.room m.new + 1 }
@@ -230,13 +233,24 @@ impl<M: OwnedFairLock<LockProtocol>, LockProtocol> OwnedLocks<M::Edit>
         room: usize,
     ) -> Result<M, NoMemory>
         requires distinct { AreDistinct blocks.items }
-        ensures seen { IfOk result (λ m. ⟦<SpinLock<M, LockProtocol> as Layer<LockLaw<M::Edit>>>⟧.seen m ≡ []) }
-        ensures opening { IfOk result (λ m. ⟦<SpinLock<M, LockProtocol> as Layer<LockLaw<M::Edit>>>⟧.opening m ≡ opened blocks.items) }
-        ensures room { IfOk result (λ m. ⟦<SpinLock<M, LockProtocol> as Layer<LockLaw<M::Edit>>>⟧.room m ≡ room) }
-        ensures acts { IfOk result (λ m. (c : _) → c.0 < CPUS → ⟦<SpinLock<M, LockProtocol> as Layer<LockLaw<M::Edit>>>⟧.ActsFor m c) }
-        ensures outside { IfOk result (λ m. (c : _) → ⟦<SpinLock<M, LockProtocol> as Layer<LockLaw<M::Edit>>>⟧.IsOutside m c) }
-        ensures none { IfOk result (λ m. ⟦<SpinLock<M, LockProtocol> as Layer<LockLaw<M::Edit>>>⟧.acts m ≡ []) }
-        ensures holders { IfOk result (λ m. (c : _) → ⟦<SpinLock<M, LockProtocol> as Layer<LockLaw<M::Edit>>>⟧.MayHold m c → ⊥) }
+        ensures seen { IfOk result
+            (λ m. ⟦<SpinLock<M, LockProtocol> as Layer<LockLaw<M::Edit>>>⟧.seen m ≡ []) }
+        ensures opening { IfOk result
+            (λ m. ⟦<SpinLock<M, LockProtocol> as Layer<LockLaw<M::Edit>>>⟧.opening m
+            ≡ opened blocks.items) }
+        ensures room { IfOk result
+            (λ m. ⟦<SpinLock<M, LockProtocol> as Layer<LockLaw<M::Edit>>>⟧.room m ≡ room) }
+        ensures acts { IfOk result
+            (λ m. (c : _) → c.0 < CPUS
+            → ⟦<SpinLock<M, LockProtocol> as Layer<LockLaw<M::Edit>>>⟧.ActsFor m c) }
+        ensures outside { IfOk result
+            (λ m. (c : _) → ⟦<SpinLock<M, LockProtocol> as Layer<LockLaw<M::Edit>>>⟧.IsOutside m
+            c) }
+        ensures none { IfOk result
+            (λ m. ⟦<SpinLock<M, LockProtocol> as Layer<LockLaw<M::Edit>>>⟧.acts m ≡ []) }
+        ensures holders { IfOk result
+            (λ m. (c : _) → ⟦<SpinLock<M, LockProtocol> as Layer<LockLaw<M::Edit>>>⟧.MayHold m c
+            → ⊥) }
     {
         M::open(alloc, blocks, room)
     }

@@ -1,6 +1,7 @@
 -- The words of a lock and their operations, as data: those of a ticket lock, and those of a lock
 -- with a grant word for each waiter.
-use Rattle.std.specs.Prelude.{◌≡◌, ◌≢◌, ℕ, ◌+◌, ◌%◌, ◌^◌, ◌<◌, ◌≤◌, ◌==◌, Bool, Option, Some, None, if◌then◌else◌}
+use Rattle.std.specs.Prelude.{◌≡◌, ◌≢◌, ℕ, ◌+◌, ◌%◌, ◌^◌, ◌<◌, ◌≤◌, ◌==◌, Bool, Option, Some, None}
+use Rattle.std.specs.Prelude.{if◌then◌else◌}
 use Rattle.event_log.specs.{declared.ids.TheConstants.CPUS, Grants.WordFits}
 
 -- The words of a lock are numbered: word 0 is `next`, which issues tickets. The words represent two
@@ -37,7 +38,8 @@ pub record IsWordKind (kind : WordKind) : Type 0 where
   -- the words at the start agree with no spot taken and no release
   pub begins : (w : ℕ → ℕ) → ((i : ℕ) → i ≤ CPUS → w i ≡ first_words kind.opens i) → kind.Fit 0 0 w
   -- words that are equal agree with the same counts
-  pub same : (taken given : ℕ) (w v : ℕ → ℕ) → ((i : ℕ) → i ≤ CPUS → v i ≡ w i) → kind.Fit taken given w → kind.Fit taken given v
+  pub same : (taken given : ℕ) (w v : ℕ → ℕ) → ((i : ℕ) → i ≤ CPUS → v i ≡ w i)
+      → kind.Fit taken given w → kind.Fit taken given v
   -- word 0 is the next ticket
   pub next_is : (taken given : ℕ) (w : ℕ → ℕ) → kind.Fit taken given w → w 0 ≡ taken % 2 ^ 64
   -- after word 0, and no other, grew by 1, one spot more is taken
@@ -45,10 +47,12 @@ pub record IsWordKind (kind : WordKind) : Type 0 where
       → ((i : ℕ) → i ≤ CPUS → i ≢ 0 → v i ≡ w i) → kind.Fit (taken + 1) given v
   -- the word of a waiter fewer than CPUS spots after the served one serves its ticket exactly if
   -- its spot is next
-  pub hits : (taken given : ℕ) (w : ℕ → ℕ) → kind.Fit taken given w → (ticket spot : ℕ) → given ≤ spot → spot < given + CPUS → ticket ≡ spot % 2 ^ 64
+  pub hits : (taken given : ℕ) (w : ℕ → ℕ) → kind.Fit taken given w → (ticket spot : ℕ)
+      → given ≤ spot → spot < given + CPUS → ticket ≡ spot % 2 ^ 64
       → kind.serves ticket (w (kind.looks_at ticket)) ≡ (given == spot)
   -- after only the holder's write, the lock is released once more
-  pub gave : (taken given : ℕ) (w v : ℕ → ℕ) → kind.Fit taken given w → (ticket : ℕ) → ticket ≡ given % 2 ^ 64
+  pub gave : (taken given : ℕ) (w v : ℕ → ℕ) → kind.Fit taken given w → (ticket : ℕ)
+      → ticket ≡ given % 2 ^ 64
       → v (kind.gives_at ticket) ≡ given_on (kind.stores ticket) (w (kind.gives_at ticket))
       → ((i : ℕ) → i ≤ CPUS → i ≢ kind.gives_at ticket → v i ≡ w i) → kind.Fit taken (given + 1) v
 
@@ -72,5 +76,6 @@ grant_words = record {
   serves = λ ticket read. read == (ticket + 1) % 2 ^ 64;
   gives_at = λ ticket. (ticket + 1) % CPUS + 1;
   stores = λ ticket. Some ((ticket + 2) % 2 ^ 64);
-  Fit = λ taken given w. (w 0 ≡ taken % 2 ^ 64) × ((k : ℕ) → k < CPUS → WordFits k given (w (k + 1)));
+  Fit =
+      λ taken given w. (w 0 ≡ taken % 2 ^ 64) × ((k : ℕ) → k < CPUS → WordFits k given (w (k + 1)));
 }

@@ -2,8 +2,10 @@
 -- lock are 8 words, 64 bytes, from each other and from those of every other lock. A CPU that polls
 -- one reads a cache line that contains no other of them. Each lock has room for `next` and a word
 -- for each CPU, whatever its kind uses.
-use Rattle.std.specs.Prelude.{◌≡◌, ℕ, suc, ◌+◌, ◌*◌, ◌^◌, ◌<◌, ◌≤◌, if◌then◌else◌, List, [], ◌∷◌, length, map, slice_index, IsSome}
-use Rattle.event_log.specs.{declared.ids.{LockId.LockId, TheConstants.{CPUS, LOCKS}}, History.same_lock, Locks.lock_number}
+use Rattle.std.specs.Prelude.{◌≡◌, ℕ, suc, ◌+◌, ◌*◌, ◌^◌, ◌<◌, ◌≤◌, if◌then◌else◌, List, [], ◌∷◌}
+use Rattle.std.specs.Prelude.{length, map, slice_index, IsSome}
+use Rattle.event_log.specs.declared.ids.{LockId.LockId, TheConstants.{CPUS, LOCKS}}
+use Rattle.event_log.specs.{History.same_lock, Locks.lock_number}
 use Rattle.{layer_traits.specs.Protocols.OneLock.opened, table_machine.specs.Kinds.first_words}
 
 -- the rank of a lock: how many locks precede it at the opening; the number of all locks, if it is
@@ -28,15 +30,20 @@ word_count locks = 8 * ((CPUS + 1) * locks) + 1
 -- others are 0
 pub record AreFirst (opens locks done : ℕ) (words : List ℕ) : Type 0 where
   pub count : length words ≡ word_count locks
-  pub done_so : (rank word : ℕ) → rank < done → word ≤ CPUS → words_at_rank words rank word ≡ first_words opens word
-  pub zeros : (rank word : ℕ) → done ≤ rank → rank < locks → word ≤ CPUS → words_at_rank words rank word ≡ 0
+  pub done_so : (rank word : ℕ) → rank < done → word ≤ CPUS
+      → words_at_rank words rank word ≡ first_words opens word
+  pub zeros : (rank word : ℕ) → done ≤ rank → rank < locks → word ≤ CPUS
+      → words_at_rank words rank word ≡ 0
 
 -- the row gives the rank of each lock of the opening
 abbrev pub AreRanks : {B : Type 0} → List ℕ → List (LockId × B) → Type 0
-AreRanks ranks start = (lock : LockId) → IsSome (opened start lock) → slice_index ranks (lock_number lock) ≡ rank_of start lock
+AreRanks ranks start =
+    (lock : LockId) → IsSome (opened start lock)
+    → slice_index ranks (lock_number lock) ≡ rank_of start lock
 
 -- a table is laid out for these locks: their words, their slots, and the row of their ranks
-pub record IsLaidOut {B : Type 0} (start : List (LockId × B)) (words slots : ℕ) (ranks : List ℕ) (locks : List LockId) : Type 0 where
+pub record IsLaidOut {B : Type 0} (start : List (LockId × B)) (words slots : ℕ) (ranks : List ℕ)
+    (locks : List LockId) : Type 0 where
   pub words_are : words ≡ word_count (length start)
   pub slots_are : slots ≡ length start
   pub small : word_count (length start) < 2 ^ 64

@@ -1,12 +1,15 @@
 -- What a seat knows of the log, and which CPUs it acts for.
 use Rattle.std.specs.Prelude.{◌≡◌, ℕ, zero, suc, ◌+◌, ◌<◌, List, [], ◌∷◌, ◌++◌, ◌⊎◌}
-use Rattle.event_log.specs.{declared.{ids.{CpuId.CpuId, LockId.LockId}, events.Event.Event}, History.AreOthers, WordsLog.cpu_of_event}
-use Rattle.{layer_traits.specs.declared.edits.Mark.Mark, table_machine.specs.declared.views.View.View}
+use Rattle.event_log.specs.declared.{ids.{CpuId.CpuId, LockId.LockId}, events.Event.Event}
+use Rattle.event_log.specs.{History.AreOthers, WordsLog.cpu_of_event}
+use Rattle.layer_traits.specs.declared.edits.Mark.{Mark}
+use Rattle.table_machine.specs.declared.views.View.{View}
 use mathlib.Core.Option.{some}
 use lib.ListN.{get_elem?}
 
 -- a view that has merged all that it received
-abbrev pub caught_up : {E B : Type 0} → List (LockId × B) → List CpuId → List (Event (Mark E)) → View E B
+abbrev pub caught_up : {E B : Type 0} → List (LockId × B) → List CpuId → List (Event (Mark E))
+    → View E B
 caught_up start cpus seen = record { start = start; cpus = cpus; seen = seen; told = []; lent = [] }
 
 -- the view of the seat of one CPU
@@ -55,8 +58,11 @@ pub record Fits {E B : Type 0} (log : List (Event (Mark E))) (v : View E B) : Ty
   pub lent : (c : CpuId) → Has c v.lent → IsSince log v.told c
 
 -- all views are prefixes of the log; a CPU is of one view at most, and below the number of CPUs
-pub record Sees {E B : Type 0} (cpu_count : ℕ) (views : List (View E B)) (log : List (Event (Mark E))) : Type 0 where
+pub record Sees {E B : Type 0} (cpu_count : ℕ) (views : List (View E B))
+    (log : List (Event (Mark E))) : Type 0 where
   pub fits : (i : ℕ) (v : View E B) → get_elem? views i ≡ some v → Fits log v
   pub seat_of : ℕ → ℕ
-  pub apart : (i : ℕ) (v : View E B) (c : CpuId) → get_elem? views i ≡ some v → Owns c v → i ≡ seat_of c.0
-  pub known : (i : ℕ) (v : View E B) (c : CpuId) → get_elem? views i ≡ some v → Owns c v → c.0 < cpu_count
+  pub apart : (i : ℕ) (v : View E B) (c : CpuId) → get_elem? views i ≡ some v → Owns c v
+      → i ≡ seat_of c.0
+  pub known : (i : ℕ) (v : View E B) (c : CpuId) → get_elem? views i ≡ some v → Owns c v
+      → c.0 < cpu_count

@@ -83,11 +83,13 @@ fn returned<E: SplitEdit>(
 ) -> Vec<(LockId, E::Block)>
     requires full { IsFull closed.slots }
     requires count { slots_len closed.slots ≡ length locks.items }
-    requires home { (i : ℕ) → i < length locks.items → (y : Home _ _) × (get_elem? (slots_items closed.slots) i ≡ some y) × IsSome y.block }
+    requires home { (i : ℕ) → i < length locks.items
+        → (y : Home _ _) × (get_elem? (slots_items closed.slots) i ≡ some y) × IsSome y.block }
     requires empty { blocks.items ≡ [] }
     requires room { length locks.items ≤ vec_capacity blocks }
     ensures count { length result.items ≡ length locks.items }
-    ensures blocks { (i : ℕ) (lock : LockId) (y : Home _ _) (b : _) → get_elem? locks.items i ≡ some lock → get_elem? (slots_items closed.slots) i ≡ some y
+    ensures blocks { (i : ℕ) (lock : LockId) (y : Home _ _) (b : _)
+        → get_elem? locks.items i ≡ some lock → get_elem? (slots_items closed.slots) i ≡ some y
         → y.block ≡ Some b → get_elem? result.items i ≡ some (lock, b) }
 {
     for i in 0..locks.len() {

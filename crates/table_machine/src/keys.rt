@@ -58,7 +58,8 @@ impl<E: SplitEdit> Key<E> {
         requires lock { IsSome (opened self.old.start lock) }
         requires outside { lock_phase self.old.cpu self.old.seen ≡ Idle }
         ensures same { self.new ≡ record self.old { seen = self.new.seen } }
-        ensures adds { Adds (IsThisCpu self.old.cpu) cpu_of_event (Draw self.old.cpu lock result) self.old.seen self.new.seen }
+        ensures adds { Adds (IsThisCpu self.old.cpu) cpu_of_event (Draw self.old.cpu lock result)
+            self.old.seen self.new.seen }
         ensures legal { IsLawful (MayCome (E.rules.allowed (opened self.old.start))) self.new.seen }
     {
         let word = shared.word(lock, 0);
@@ -79,11 +80,14 @@ impl<E: SplitEdit> Key<E> {
         requires lock { IsSome (opened self.old.start lock) }
         requires waiting { lock_phase self.old.cpu self.old.seen ≡ Waiting lock ticket }
         ensures same { self.new ≡ record self.old { seen = self.new.seen } }
-        ensures adds { (read : ℕ) × Adds (IsThisCpu self.old.cpu) cpu_of_event (Look self.old.cpu lock ticket read) self.old.seen self.new.seen }
+        ensures adds { (read : ℕ)
+            × Adds (IsThisCpu self.old.cpu) cpu_of_event (Look self.old.cpu lock ticket read)
+            self.old.seen self.new.seen }
         ensures hits { MatchOption result
             (lock_phase self.old.cpu self.new.seen ≡ Waiting lock ticket)
             (λ block. (lock_phase self.old.cpu self.new.seen ≡ Holding lock ticket)
-            × (block_after E.rules.edited (opened self.old.start) lock (sections self.new.seen) ≡ Some block)) }
+            × (block_after E.rules.edited (opened self.old.start) lock (sections self.new.seen)
+            ≡ Some block)) }
         ensures legal { IsLawful (MayCome (E.rules.allowed (opened self.old.start))) self.new.seen }
     {
         let word = shared.word(lock, K::looks_at(ticket));
@@ -107,11 +111,16 @@ impl<E: SplitEdit> Key<E> {
     )
         requires of { IsOf shared.now self.old }
         requires lock { IsSome (opened self.old.start lock) }
-        requires inside { (ticket : ℕ) × (lock_phase self.old.cpu self.old.seen ≡ Holding lock ticket) }
-        requires edited { option_map (E.rules.edited edit) (block_after E.rules.edited (opened self.old.start) lock (sections self.old.seen)) ≡ Some block }
-        requires allowed { StaysAllowed (E.rules.allowed (opened self.old.start)) (sections self.old.seen) (section self.old.cpu lock edit) }
+        requires inside { (ticket : ℕ)
+            × (lock_phase self.old.cpu self.old.seen ≡ Holding lock ticket) }
+        requires edited { option_map (E.rules.edited edit)
+            (block_after E.rules.edited (opened self.old.start) lock (sections self.old.seen))
+            ≡ Some block }
+        requires allowed { StaysAllowed (E.rules.allowed (opened self.old.start))
+            (sections self.old.seen) (section self.old.cpu lock edit) }
         ensures same { self.new ≡ record self.old { seen = self.new.seen } }
-        ensures adds { Adds (IsThisCpu self.old.cpu) cpu_of_event (Free self.old.cpu lock (mark_of edit)) self.old.seen self.new.seen }
+        ensures adds { Adds (IsThisCpu self.old.cpu) cpu_of_event
+            (Free self.old.cpu lock (mark_of edit)) self.old.seen self.new.seen }
         ensures legal { IsLawful (MayCome (E.rules.allowed (opened self.old.start))) self.new.seen }
     {
         let word = shared.word(lock, K::gives_at(self.ticket));

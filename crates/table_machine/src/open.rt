@@ -71,10 +71,12 @@ impl<E: SplitEdit, K: TableWords> Shared<E, K> {
     fn deal(&self, dealer: &mut Token<E>, cpu: u8) -> Key<E>
         requires cpu { cpu < self.now.cpus }
         requires table { dealer.old.table_id ≡ self.now.table }
-        requires dealer { dealer.old.me ≡ (caught_up self.now.start (cpus_from cpu (self.now.cpus - cpu)) [], []) }
+        requires dealer { dealer.old.me
+            ≡ (caught_up self.now.start (cpus_from cpu (self.now.cpus - cpu)) [], []) }
         ensures key { result ≡ new_seat_view self.now cpu }
         ensures table { dealer.new.table_id ≡ self.now.table }
-        ensures dealer { dealer.new.me ≡ (caught_up self.now.start (cpus_from (cpu + 1) (self.now.cpus - (cpu + 1))) [], []) }
+        ensures dealer { dealer.new.me
+            ≡ (caught_up self.now.start (cpus_from (cpu + 1) (self.now.cpus - (cpu + 1))) [], []) }
     {
         let token = self.table.shared.split_seat::<Deals>(dealer);
         Key {
@@ -96,7 +98,8 @@ fn opened_table<E: SplitEdit, K: TableWords>(
     ensures start { IfOk result (λ r. r.0.start ≡ blocks.items) }
     ensures cpus { IfOk result (λ r. r.0.cpus ≡ cpus) }
     ensures table { IfOk result (λ r. r.1.table_id ≡ r.0.table) }
-    ensures dealer { IfOk result (λ r. r.1.me ≡ (caught_up blocks.items (cpus_from 0 cpus) [], [])) }
+    ensures dealer { IfOk result
+        (λ r. r.1.me ≡ (caught_up blocks.items (cpus_from 0 cpus) [], [])) }
 {
     let about = Opening {
         cpus,
@@ -123,7 +126,8 @@ fn furnished<E: SplitEdit, K: TableWords>(
     locks: Vec<LockId>,
     blocks: Vec<(LockId, E::Block)>,
 ) -> (Shared<E, K>, Token<E>)
-    requires laid { IsLaidOut made.0.shared.key.blocks.value.items made.0.shared.table_id.words made.0.shared.table_id.slots ranks.items locks.items }
+    requires laid { IsLaidOut made.0.shared.key.blocks.value.items made.0.shared.table_id.words
+        made.0.shared.table_id.slots ranks.items locks.items }
     requires empty { blocks.items ≡ [] }
     requires room { length made.0.shared.key.blocks.value.items ≤ vec_capacity blocks }
     requires distinct { AreDistinct made.0.shared.key.blocks.value.items }
@@ -146,12 +150,14 @@ fn laid_out<E: SplitEdit, K: TableWords>(
     alloc: Global,
     blocks: Vec<(LockId, E::Block)>,
 ) -> Result<Layout<E>, AllocError>
-    ensures words { IfOk result (λ r. AreFirst K.kind.opens (length blocks.items) (length blocks.items) r.words.items) }
+    ensures words { IfOk result
+        (λ r. AreFirst K.kind.opens (length blocks.items) (length blocks.items) r.words.items) }
     ensures small { IfOk result (λ r. word_count (length blocks.items) < 2 ^ 64) }
     ensures row { IfOk result (λ r. length r.ranks.items ≡ LOCKS) }
     ensures ranks { IfOk result (λ r. AreRanks r.ranks.items blocks.items) }
     ensures locks { IfOk result (λ r. r.locks.items ≡ map (λ (o : LockId × _). o.0) blocks.items) }
-    ensures homes { IfOk result (λ r. r.homes.items ≡ map (λ (o : LockId × _). fresh_home o.1) blocks.items) }
+    ensures homes { IfOk result
+        (λ r. r.homes.items ≡ map (λ (o : LockId × _). fresh_home o.1) blocks.items) }
     ensures none { IfOk result (λ r. r.returned.items ≡ []) }
     ensures room { IfOk result (λ r. length blocks.items ≤ vec_capacity r.returned) }
 {
@@ -212,7 +218,8 @@ fn parted<E: SplitEdit>(
     blocks: Vec<(LockId, E::Block)>,
 ) -> Result<(Vec<LockId>, Vec<Slot<E, E::Block>>), AllocError>
     ensures locks { IfOk result (λ r. r.0.items ≡ map (λ (o : LockId × _). o.0) blocks.items) }
-    ensures homes { IfOk result (λ r. r.1.items ≡ map (λ (o : LockId × _). fresh_home o.1) blocks.items) }
+    ensures homes { IfOk result
+        (λ r. r.1.items ≡ map (λ (o : LockId × _). fresh_home o.1) blocks.items) }
 {
     let mut locks = Vec::with_capacity(alloc, blocks.len())?;
     let mut homes = Vec::with_capacity(alloc, blocks.len())?;

@@ -124,7 +124,8 @@ pub fn meet<E: SplitEdit, K: TableWords>(first: &mut Seat<'_, E, K>, second: &mu
     ensures second { second.new ≡ record second.old { seen = second.new.seen } }
     ensures begins { EndsWith second.new.seen first.old.seen }
     ensures grows { Grows (IsThisCpu second.old.cpu) cpu_of_event second.old.seen second.new.seen }
-    ensures lawful { IsLawful (MayCome (E.rules.allowed (opened second.old.start))) second.new.seen }
+    ensures lawful { IsLawful (MayCome (E.rules.allowed (opened second.old.start)))
+        second.new.seen }
 {
     let notes = first.key.notes(first.shared);
     second.key.take_in(second.shared, notes);

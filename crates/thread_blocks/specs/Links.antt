@@ -1,8 +1,9 @@
 -- Queues, each in one table of nodes that are doubly linked. A node is a thread, or the end: the
 -- node before the first thread and after the last.
-use Rattle.std.specs.Prelude.{◌≡◌, ◌≢◌, ℕ, zero, suc, ◌<◌, Bool, false, List, [], ◌∷◌, length, Option, Some, None, slice_index_or}
+use Rattle.std.specs.Prelude.{◌≡◌, ◌≢◌, ℕ, zero, suc, ◌<◌, Bool, false, List, [], ◌∷◌, length}
+use Rattle.std.specs.Prelude.{Option, Some, None, slice_index_or}
 use Rattle.event_log.specs.declared.ids.{Tid.Tid, TheConstants.THREADS}
-use Rattle.thread_blocks.specs.{Queues.is_in, Queues.IsQueue, declared.nodes.Node.Node, declared.nodes.Nodes.Nodes}
+use Rattle.thread_blocks.specs.{Queues.{is_in, IsQueue}, declared.nodes.{Node.Node, Nodes.Nodes}}
 
 -- a node as the table begins: it leads to the end both ways, and is no member
 abbrev pub untouched : Node
@@ -35,12 +36,15 @@ threads_of nodes = walk (next_node nodes) nodes.end.next nodes.count
 
 -- from this node through these threads to the end, each node leads to the next one, and each next
 -- one back
-abbrev pub AreLinked : (Option Tid → Option Tid) → (Option Tid → Option Tid) → Option Tid → List Tid → Type 0
+abbrev pub AreLinked : (Option Tid → Option Tid) → (Option Tid → Option Tid) → Option Tid → List Tid
+    → Type 0
 AreLinked next prev node [] = (next node ≡ None) × (prev None ≡ node)
-AreLinked next prev node (t ∷ queue) = (next node ≡ Some t) × (prev (Some t) ≡ node) × AreLinked next prev (Some t) queue
+AreLinked next prev node (t ∷ queue) =
+    (next node ≡ Some t) × (prev (Some t) ≡ node) × AreLinked next prev (Some t) queue
 
 -- one node has this value now, and each other node the value that it had
-pub record Changed {A : Type 0} (old new : Option Tid → A) (node : Option Tid) (value : A) : Type 0 where
+pub record Changed {A : Type 0} (old new : Option Tid → A) (node : Option Tid) (value : A) : Type
+    0 where
   pub here : new node ≡ value
   pub there : (other : Option Tid) → other ≢ node → new other ≡ old other
 

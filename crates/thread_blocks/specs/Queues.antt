@@ -1,5 +1,6 @@
 -- Queues of threads: lists of distinct threads, the first one first.
-use Rattle.std.specs.{Prelude.{◌≡◌, ◌<◌, ◌==◌, Bool, true, false, List, [], ◌∷◌, Option, Some, None, if◌then◌else◌}, List.{list_any, IsDistinct}}
+use Rattle.std.specs.Prelude.{◌≡◌, ◌<◌, ◌==◌, Bool, true, false, List, [], ◌∷◌, Option, Some, None}
+use Rattle.std.specs.{Prelude.if◌then◌else◌, List.{list_any, IsDistinct}}
 use Rattle.event_log.specs.declared.ids.{Tid.Tid, TheConstants.THREADS}
 
 -- whether two threads are one

@@ -65,7 +65,8 @@ impl ThreadList {
 
     /// Removes and returns the first thread; `None` if there is none.
     pub(crate) fn pop(&mut self) -> Option<Tid>
-        ensures { MatchOption result ((self.old ≡ []) × (self.new ≡ [])) (λ t. (t.0 < THREADS) × (is_in t self.new ≡ false) × (self.old ≡ t ∷ self.new)) }
+        ensures { MatchOption result ((self.old ≡ []) × (self.new ≡ []))
+            (λ t. (t.0 < THREADS) × (is_in t self.new ≡ false) × (self.old ≡ t ∷ self.new)) }
     {
         if self.threads.is_empty() {
             return None;

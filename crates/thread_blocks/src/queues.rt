@@ -80,8 +80,10 @@ impl ThreadQueue {
     pub fn pop_in<L: Ledger>(&mut self, ticks: &mut Ticks<L>) -> Option<Tid>
         ensures value { result ≡ first self.old }
         ensures rest { self.new ≡ rest self.old }
-        ensures apart { MatchOption result (self.old ≡ []) (λ t. (t.0 < THREADS) × (is_in t self.new ≡ false) × (self.old ≡ t ∷ self.new)) }
-        ensures ticks { MatchOption result (ticks.new ≡ ticks.old) (λ _. ticks.new ≤ ticks.old + 8) }
+        ensures apart { MatchOption result (self.old ≡ [])
+            (λ t. (t.0 < THREADS) × (is_in t self.new ≡ false) × (self.old ≡ t ∷ self.new)) }
+        ensures ticks { MatchOption result (ticks.new ≡ ticks.old)
+            (λ _. ticks.new ≤ ticks.old + 8) }
     {
         let first = self.nodes.end.next;
         let Some(t) = first else {
@@ -140,7 +142,8 @@ impl ThreadQueue {
     pub fn pop(&mut self) -> Option<Tid>
         ensures value { result ≡ first self.old }
         ensures rest { self.new ≡ rest self.old }
-        ensures apart { MatchOption result (self.old ≡ []) (λ t. (t.0 < THREADS) × (is_in t self.new ≡ false) × (self.old ≡ t ∷ self.new)) }
+        ensures apart { MatchOption result (self.old ≡ [])
+            (λ t. (t.0 < THREADS) × (is_in t self.new ≡ false) × (self.old ≡ t ∷ self.new)) }
     {
         pop_from::<Brand>(self, Blank::new(1))
     }
@@ -231,7 +234,8 @@ fn pop_from<L: Ledger>(queue: &mut ThreadQueue, blank: Blank) -> Option<Tid>
     requires one { blank.parts ≡ 1 }
     ensures value { result ≡ first queue.old }
     ensures rest { queue.new ≡ rest queue.old }
-    ensures apart { MatchOption result (queue.old ≡ []) (λ t. (t.0 < THREADS) × (is_in t queue.new ≡ false) × (queue.old ≡ t ∷ queue.new)) }
+    ensures apart { MatchOption result (queue.old ≡ [])
+        (λ t. (t.0 < THREADS) × (is_in t queue.new ≡ false) × (queue.old ≡ t ∷ queue.new)) }
 {
     let mut ticks = Ticks::<L>::fresh(blank);
     queue.pop_in(&mut ticks)
@@ -276,7 +280,8 @@ fn is_member<L: Ledger>(nodes: &Nodes, t: Tid, ticks: &mut Ticks<L>) -> bool
 /// Links the node before `t` with the one after it, both ways. `t` is then not a member.
 fn unlink<L: Ledger>(nodes: &mut Nodes, t: Tid, ticks: &mut Ticks<L>)
     requires there { (before after : List Tid) × Hold nodes.old (before ++ t ∷ after) }
-    ensures held { (before after : List Tid) → Hold nodes.old (before ++ t ∷ after) → Hold nodes.new (before ++ after) }
+    ensures held { (before after : List Tid) → Hold nodes.old (before ++ t ∷ after)
+        → Hold nodes.new (before ++ after) }
     ensures ticks { ticks.new ≤ ticks.old + 6 }
 {
     let mut out = nodes.get(Some(t), ticks);
@@ -295,7 +300,8 @@ fn unlink<L: Ledger>(nodes: &mut Nodes, t: Tid, ticks: &mut Ticks<L>)
 fn link_behind<L: Ledger>(nodes: &mut Nodes, t: Tid, ticks: &mut Ticks<L>)
     requires known { t.0 < THREADS }
     requires new { (queue : List Tid) × Hold nodes.old queue × (is_in t queue ≡ false) }
-    ensures held { (queue : List Tid) → Hold nodes.old queue → is_in t queue ≡ false → Hold nodes.new (queue ++ t ∷ []) }
+    ensures held { (queue : List Tid) → Hold nodes.old queue → is_in t queue ≡ false
+        → Hold nodes.new (queue ++ t ∷ []) }
     ensures ticks { ticks.new ≤ ticks.old + 3 }
 {
     let last = nodes.end.prev;

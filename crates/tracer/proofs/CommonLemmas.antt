@@ -1,17 +1,15 @@
 -- The line of a send or a receive of one word is read in one pass, up to the line feed that ends the text.
-use Rattle.std.proofs.Common.{◌≡◌, ◌≢◌, ℕ, ◌+◌, ◌-◌, ◌*◌, ◌%◌, ◌^◌, ◌<◌, ◌≤◌, ◌==◌, true, false, List, [], ◌∷◌, ◌++◌, length, get_or, take, drop, Option}
-use Rattle.std.proofs.Common.{Some, None, Result, refl, sym, ap}
-use Rattle.std.proofs.{Common.{◌∙◌, subst, lit<, inl, inr, append_assoc, length-append, arith, rules}, lemmas.{Bool.{cases_lt, Decides.nat_tests}}}
-use Rattle.std.proofs.lemmas.List.{get_or-append_right, get_or-drop, length-drop, take_rest, Elements.All-from_recursion}
+use Rattle.std.proofs.Common.{◌≡◌, ◌≢◌, ℕ, ◌+◌, ◌-◌, ◌*◌, ◌%◌, ◌^◌, ◌<◌, ◌≤◌, ◌==◌, true, false, List, [], ◌∷◌, ◌++◌, length, get_or, take, drop, Option, Some}
+use Rattle.std.proofs.{Common.{None, Result, refl, sym, ap, ◌∙◌, subst, lit<, inl, inr, append_assoc, length-append, arith, rules}, lemmas.Bool.cases_lt}
+use Rattle.std.proofs.lemmas.{Bool.Decides.nat_tests, List.{get_or-append_right, get_or-drop, length-drop, take_rest, Elements.All-from_recursion}}
 use Rattle.std.specs.{Prelude.{decimal, codes, IfNone, IsSome}, Char.is_ascii_digit, List.{join_with_byte, slice_split}}
-use Rattle.event_log.specs.declared.{ids.TheConstants.BUFFERS, entries.{Kind.Kind, Entry.Entry}}
-use Rattle.event_log.proofs.DigitsLemmas.{ReadsUpTo, reads_one_more, read_digits, short_stays_below, number_to-spelling}
-use Rattle.tracer.specs.declared.{verdicts.Reason.Reason, versions.Version.TheVariants.One}
-use Rattle.tracer.specs.{Versions.{version_of_kind, version_of_entry}, TraceText.{text_line, entry_pieces, value_piece, IsEntryOf}}
-use Rattle.tracer.specs.Judging.{TextProgress, entry_line, step}
-use Rattle.tracer.specs.{Lines.IsFirstLine, Tallies.StepsTo, Steps.{EndsInLine, StepsOver, judged_entry}}
-use Rattle.tracer.proofs.{CutLemmas.{cut_whole, cut_none}, NumeralLemmas.front_number, SplitLemmas.{join_lacks, pieces_again}, VersionLemmas.covers_first_one}
-use Rattle.tracer.proofs.{EntryLemmas.{behind_e, of_version_again, entry_digits_again, entry_in_again}, StepLemmas.{entry_is_line, entries_e}}
+use Rattle.event_log.{specs.declared.{ids.TheConstants.BUFFERS, entries.{Kind.Kind, Entry.Entry}}, proofs.DigitsLemmas.{ReadsUpTo, reads_one_more, read_digits}}
+use Rattle.{event_log.proofs.DigitsLemmas.{short_stays_below, number_to-spelling}, tracer.specs.declared.verdicts.Reason.Reason}
+use Rattle.tracer.specs.{declared.versions.Version.TheVariants.One, Versions.{version_of_kind, version_of_entry}, TraceText.{text_line, entry_pieces}}
+use Rattle.tracer.specs.{TraceText.{value_piece, IsEntryOf}, Judging.{TextProgress, entry_line, step}, Lines.IsFirstLine, Tallies.StepsTo, Steps.EndsInLine}
+use Rattle.tracer.{specs.Steps.{StepsOver, judged_entry}, proofs.{CutLemmas.{cut_whole, cut_none}, NumeralLemmas.front_number, SplitLemmas.join_lacks}}
+use Rattle.tracer.proofs.{SplitLemmas.pieces_again, VersionLemmas.covers_first_one, EntryLemmas.{behind_e, of_version_again, entry_digits_again}}
+use Rattle.tracer.proofs.{EntryLemmas.entry_in_again, StepLemmas.{entry_is_line, entries_e}}
 use Rattle.tracer.specs.declared.next_lines.NextLine.TheVariants as wants
 
 -- ---- the end of the text

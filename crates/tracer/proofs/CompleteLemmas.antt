@@ -1,19 +1,15 @@
 -- The trace text of a run, and of where it ends, gets yes.
-use Rattle.std.specs.Prelude.{decimal}
-use Rattle.tracer.specs.TraceText.{message_text}
-use Rattle.tracer.proofs.OpeningLemmas.{behind_cap}
-use Rattle.std.proofs.Common.{cond, lit<, append-nil}
-use Rattle.std.proofs.Common.{◌≡◌, ℕ, ◌+◌, ◌<◌, ◌≤◌, true, false, List, [], ◌∷◌, ◌++◌, length, drop, map, refl, sym, ap, subst, ◌∙◌}
-use Rattle.std.proofs.{Common.{append_assoc, lt-ltb, le-ltb, arith}, lemmas.List.{length_push, length-drop, length-set, length-map, get_or-drop, drop-drop}}
-use Rattle.std.specs.{Prelude.{codes, nat_lt}, List.{AllByRecursion, flat_map}}
-use Rattle.event_log.specs.{Messages.Message, declared.{ids.TheConstants.{BUFFERS, ENTRIES}, entries.Entry.Entry}, Buffers.{items_of, empty_buffers}}
-use Rattle.{event_log.specs.{Buffers.{after_effect, IsCapacity}, Runs.{after_entry, IsRunFrom, IsRun}}, tracer.specs.declared.verdicts.Verdict.TheVariants.Yes}
-use Rattle.tracer.specs.{declared.versions.Version.{Version, TheVariants.One}, TraceText.{text_line, version_word, count_pieces, cap_pieces}}
-use Rattle.tracer.specs.TraceText.{entry_pieces, left_pieces, end_pieces, numbered, lines_of, spelling, IsEntryOf, IsSpellable, IsTraceText, AreItemsOf}
-use Rattle.tracer.specs.{Judging.{TextProgress, text_start, lines_in, verdict_from, verdict_of}, Versions.{covers, version_from, version_of}}
-use Rattle.tracer.proofs.{VersionLemmas.{covers_next, version_more}, SplitLemmas.{IsLine, line_read}, KnownLemmas.known_fresh_from}
-use Rattle.tracer.proofs.{EntryLemmas.{progress, behind_e}, StepLemmas.{entry_is_line, step_entry, behind_left, left_is_line, step_first_left, step_left}}
-use Rattle.tracer.proofs.OpeningLemmas.{step_head, step_end, count_is_line_of, step_count, opened, cap_is_line, step_cap}
+use Rattle.std.{specs.{Prelude.{decimal, codes, nat_lt}, List.{AllByRecursion, flat_map}}, proofs.Common.{cond, lit<, append-nil, ◌≡◌, ℕ, ◌+◌, ◌<◌, ◌≤◌, true}}
+use Rattle.std.proofs.Common.{false, List, [], ◌∷◌, ◌++◌, length, drop, map, refl, sym, ap, subst, ◌∙◌, append_assoc, lt-ltb, le-ltb, arith}
+use Rattle.std.proofs.lemmas.List.{length_push, length-drop, length-set, length-map, get_or-drop, drop-drop}
+use Rattle.tracer.specs.TraceText.{message_text, text_line, version_word, count_pieces, cap_pieces, entry_pieces, left_pieces, end_pieces, numbered, lines_of}
+use Rattle.tracer.specs.{TraceText.{spelling, IsEntryOf, IsSpellable, IsTraceText, AreItemsOf}, declared.verdicts.Verdict.TheVariants.Yes}
+use Rattle.tracer.specs.{declared.versions.Version.{Version, TheVariants.One}, Judging.{TextProgress, text_start, lines_in, verdict_from, verdict_of}}
+use Rattle.tracer.{specs.Versions.{covers, version_from, version_of}, proofs.OpeningLemmas.{behind_cap, step_head, step_end, count_is_line_of, step_count}}
+use Rattle.tracer.proofs.{OpeningLemmas.{opened, cap_is_line, step_cap}, VersionLemmas.{covers_next, version_more}, SplitLemmas.{IsLine, line_read}}
+use Rattle.tracer.proofs.{KnownLemmas.known_fresh_from, EntryLemmas.{progress, behind_e}, StepLemmas.{entry_is_line, step_entry, behind_left, left_is_line}}
+use Rattle.{tracer.proofs.StepLemmas.{step_first_left, step_left}, event_log.specs.{Messages.Message, declared.ids.TheConstants.{BUFFERS, ENTRIES}}}
+use Rattle.event_log.specs.{declared.entries.Entry.Entry, Buffers.{items_of, empty_buffers, after_effect, IsCapacity}, Runs.{after_entry, IsRunFrom, IsRun}}
 use Rattle.tracer.specs.declared.next_lines.NextLine.TheVariants as wants
 
 -- the last line

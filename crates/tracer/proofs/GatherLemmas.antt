@@ -4,10 +4,9 @@ use Rattle.std.proofs.{Common.{subst, inl, inr, arith, add-one, append_assoc}, l
 use Rattle.std.proofs.lemmas.List.{get_or_past, nil_from_length, length-replicate, length-set, length-append, append-nil, Sums.{sum_by-cons, sum_by-set}}
 use Rattle.std.{proofs.lemmas.{List.Sums.get_or-le-sum_by, Bool.cases_eq, Option.{get_or_from_slice_get, slice_get_within}}, specs.Borrow.Bor}
 use Rattle.std.specs.Prelude.{slice_get}
-use Rattle.{event_log.specs.{declared.entries.Entry.Entry, Runs.count_of, Traces.{IsInterleaving, HasOpOrderFrom, HasOpOrder}}, tracer.specs.Gather.traces_in}
-use Rattle.tracer.specs.Gather.{entries_in, IsOrder, IsFrontReady, TakesFirstReadyFrom, TakesFirstReady, HasNoOrder, next_entry, IsNextOp, NoneDueBelow}
-use Rattle.event_log.proofs.ListLemmas.{alike_at}
-use Rattle.tracer.proofs.OrderLemmas.{at_head, head_at, count_more_same, count_more_other, CameFirst, may_come_first}
+use Rattle.event_log.{specs.{declared.entries.Entry.Entry, Runs.count_of, Traces.{IsInterleaving, HasOpOrderFrom, HasOpOrder}}, proofs.ListLemmas.alike_at}
+use Rattle.tracer.specs.Gather.{traces_in, entries_in, IsOrder, IsFrontReady, TakesFirstReadyFrom, TakesFirstReady, HasNoOrder, next_entry, IsNextOp}
+use Rattle.tracer.{specs.Gather.NoneDueBelow, proofs.OrderLemmas.{at_head, head_at, count_more_same, count_more_other, CameFirst, may_come_first}}
 
 -- what is left of each trace, where so many of each are taken
 abbrev pub rests : List (List Entry) → List ℕ → List (List Entry)

@@ -1,15 +1,13 @@
 -- The lines before the entries, and the last line: each is accepted at its place, and what is
 -- accepted is spelled so.
-use Rattle.std.proofs.Common.{◌≡◌, ℕ, ◌+◌, ◌<◌, ◌≤◌, ◌^◌, true, cond, List, [], ◌∷◌, ◌++◌, length, map, Ok, refl, lt-ltb, arith}
-use Rattle.std.{proofs.lemmas.{List.{length-map, map_push}, Slice.Eq.bytes_eq-Decides}, specs.{Prelude.{decimal, codes, nat_lt}}}
-use Rattle.std.specs.List.{join_with_byte}
+use Rattle.std.proofs.{Common.{◌≡◌, ℕ, ◌+◌, ◌<◌, ◌≤◌, ◌^◌, true, cond, List, [], ◌∷◌, ◌++◌, length, map, Ok, refl, lt-ltb, arith}, lemmas.List.length-map}
+use Rattle.std.{proofs.lemmas.{List.map_push, Slice.Eq.bytes_eq-Decides}, specs.{Prelude.{decimal, codes, nat_lt}, List.join_with_byte}}
 use Rattle.event_log.{specs.{Buffers.IsCapacity, declared.ids.TheConstants.{BUFFERS, CAPACITY}}, proofs.DigitsLemmas.number_to-decimal}
-use Rattle.tracer.specs.declared.{next_lines.NextLine.NextLine, versions.Version.Version}
-use Rattle.tracer.specs.{declared.versions.Version.TheVariants.{One}, Versions.covers, TraceText.{head_pieces, cap_pieces, count_pieces}}
-use Rattle.tracer.specs.Judging.{TextProgress, fresh, in_range, count_digits, count_line}
-use Rattle.tracer.{specs.Judging.{capacity_digits, capacity_line, version_in, head_line, end_line, step}, proofs.SplitLemmas.{IsLine, decimal_lacks}}
-use Rattle.tracer.proofs.{SplitLemmas.pieces_again, ReadLemmas.{bind_ok, wanted_ok, same_ok, piece_taken, word_taken, digits_taken, ended_taken, IsInRange}}
-use Rattle.tracer.proofs.ReadLemmas.{in_range_taken, is_value_taken, decimal_is_number, is_value_again}
+use Rattle.tracer.specs.{declared.{next_lines.NextLine.NextLine, versions.Version.{Version, TheVariants.One}}, Versions.covers, TraceText.head_pieces}
+use Rattle.tracer.specs.{TraceText.{cap_pieces, count_pieces}, Judging.{TextProgress, fresh, in_range, count_digits, count_line, capacity_digits}}
+use Rattle.tracer.{specs.Judging.{capacity_line, version_in, head_line, end_line, step}, proofs.SplitLemmas.{IsLine, decimal_lacks, pieces_again}}
+use Rattle.tracer.proofs.ReadLemmas.{bind_ok, wanted_ok, same_ok, piece_taken, word_taken, digits_taken, ended_taken, IsInRange, in_range_taken, is_value_taken}
+use Rattle.tracer.proofs.ReadLemmas.{decimal_is_number, is_value_again}
 use Rattle.tracer.specs.declared.next_lines.NextLine.TheVariants as wants
 
 -- ---- the head and the last line

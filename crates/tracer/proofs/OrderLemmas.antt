@@ -1,8 +1,7 @@
 -- Orders of traces: an entry that is due at the head of its trace may come first.
-use Rattle.std.proofs.Common.{◌≡◌, ◌≢◌, ℕ, ◌+◌, ◌<◌, Bool, cond, eqb, ◌&&◌, refl, List, [], ◌∷◌, ◌++◌, get_or, set, Some, sym, ap}
-use Rattle.std.proofs.{Common.{◌∙◌, subst, inl, inr, arith, count_by}, lemmas.{List.{set_comm, get_or-set_other, get_or_past, Sums.sum_by_push}, Bool.cases_eq}}
-use Rattle.std.{proofs.lemmas.{Bool.{eqb-true, Decides.nat_tests}, Option.{get_or_from_slice_get, slice_get-get_or}}, specs.Prelude.{slice_get, ◌==◌}}
-use Rattle.std.specs.Prelude.{if◌then◌else◌}
+use Rattle.std.proofs.Common.{◌≡◌, ◌≢◌, ℕ, ◌+◌, ◌<◌, Bool, cond, eqb, ◌&&◌, refl, List, [], ◌∷◌, ◌++◌, get_or, set, Some, sym, ap, ◌∙◌, subst, inl, inr, arith}
+use Rattle.std.proofs.{Common.count_by, lemmas.{List.{set_comm, get_or-set_other, get_or_past, Sums.sum_by_push}, Bool.{cases_eq, eqb-true, Decides.nat_tests}}}
+use Rattle.std.{proofs.lemmas.Option.{get_or_from_slice_get, slice_get-get_or}, specs.Prelude.{slice_get, ◌==◌, if◌then◌else◌}}
 use Rattle.event_log.specs.{Messages.Message, declared.entries.{Entry.Entry, Kind.{Kind, TheVariants.Close}}, Buffers.{items_of, after_effect, empty_buffers}}
 use Rattle.event_log.specs.{Runs.{count_of, count_of_kind, kind_eq, IsNext, IsRunFrom, after_entry}, Traces.{IsInterleaving, HasOpOrderFrom}}
 use Rattle.{event_log.proofs.RunLemmas.{op_order_from, count_more, count_kind_more}, tracer.specs.Gather.{OrdersAgreeByBuffer, RunsHaveOrder, OrdersRunAlike}}

@@ -1,13 +1,11 @@
 -- A text that is read and judged in parts has the verdict of the whole.
 use Rattle.std.proofs.Common.{◌≡◌, ℕ, ◌+◌, ◌-◌, ◌<◌, ◌≤◌, List, [], ◌∷◌, ◌++◌, length, take, drop, Option, Some, None, Result, Ok, Err, refl, sym, ap, ◌∙◌}
 use Rattle.std.proofs.{Common.{append_assoc, append-nil, eq-eqb, arith, length-append, subst}, lemmas.List.{drop-take, length-drop, length-take}}
-use Rattle.std.proofs.lemmas.List.{nil_from_length, take-append-drop, Edits.take-paste}
-use Rattle.{std.{proofs.lemmas.List.Splits.slice_split_at, specs.Io.KnownBytes.{Consumes, IsAtEnd}}, tracer.specs.declared.checking.TextJudge.TextJudge}
-use Rattle.tracer.specs.declared.verdicts.{Reason.Reason, Verdict.{Verdict, TheVariants.{Yes}}}
-use Rattle.tracer.specs.Judging.{TextProgress, lines_in, step, verdict_from, verdict_of}
-use Rattle.tracer.specs.{Inputs.IsReadBehind, Lines.IsFirstLine, Steps.{EndsInLine, StepsOver}, Parts.verdict_behind, Tallies.{progress_of, StepsTo}}
-use Rattle.tracer.specs.Verdicts.{IsTraceOfRun, IsVerdictOn}
-use Rattle.tracer.proofs.{VerdictLemmas.{line_taken, line_refused}, CommonLemmas.ends_behind_line}
+use Rattle.std.{proofs.lemmas.List.{nil_from_length, take-append-drop, Edits.take-paste, Splits.slice_split_at}, specs.Io.KnownBytes.{Consumes, IsAtEnd}}
+use Rattle.tracer.specs.{declared.{checking.TextJudge.TextJudge, verdicts.{Reason.Reason, Verdict.{Verdict, TheVariants.Yes}}}, Judging.TextProgress}
+use Rattle.tracer.specs.{Judging.{lines_in, step, verdict_from, verdict_of}, Inputs.IsReadBehind, Lines.IsFirstLine, Steps.{EndsInLine, StepsOver}}
+use Rattle.tracer.{specs.{Parts.verdict_behind, Tallies.{progress_of, StepsTo}, Verdicts.{IsTraceOfRun, IsVerdictOn}}, proofs.VerdictLemmas.line_taken}
+use Rattle.tracer.proofs.{VerdictLemmas.line_refused, CommonLemmas.ends_behind_line}
 use lib.Seq.{paste, take-add}
 
 -- ---- the bytes of a reader

@@ -1,18 +1,17 @@
 -- A text that gets yes is the trace text of a run, and of where it ends.
-use Rattle.std.proofs.Common.{lt-ltb}
-use Rattle.std.proofs.Common.{◌≡◌, inl, inr, ℕ, ◌+◌, ◌<◌, ◌≤◌, Bool, true, false, cond, List, [], ◌∷◌, ◌++◌, length, drop, map, Result, Ok, Err}
-use Rattle.std.proofs.{Common.{refl, sym, ap, subst, ◌∙◌, append_assoc, eqb-true, ltb-true, ltb-false, arith}, lemmas.List.{append-nil, length_push}}
-use Rattle.std.proofs.lemmas.List.{length-set, length-map, drop_more, drop_all, nil_from_length, Concat.flat_map-append, Splits.join_with_byte-slice_split}
+use Rattle.std.proofs.Common.{lt-ltb, ◌≡◌, inl, inr, ℕ, ◌+◌, ◌<◌, ◌≤◌, Bool, true, false, cond, List, [], ◌∷◌, ◌++◌, length, drop, map, Result, Ok, Err, refl}
+use Rattle.std.proofs.{Common.{sym, ap, subst, ◌∙◌, append_assoc, eqb-true, ltb-true, ltb-false, arith}, lemmas.List.{append-nil, length_push, length-set}}
+use Rattle.std.proofs.lemmas.List.{length-map, drop_more, drop_all, nil_from_length, Concat.flat_map-append, Splits.join_with_byte-slice_split}
 use Rattle.std.specs.{Prelude.nat_lt, List.{AllByRecursion, flat_map, join_with_byte}}
 use Rattle.event_log.specs.{Messages.Message, declared.{ids.TheConstants.{BUFFERS, ENTRIES}, entries.Entry.Entry}, Buffers.{items_of, empty_buffers}}
 use Rattle.event_log.{specs.{Buffers.IsCapacity, Runs.{IsNext, after_entry, IsRunFrom, IsRun}}, proofs.Streams.taken_put}
-use Rattle.tracer.specs.declared.{verdicts.{Reason.Reason, Verdict.{Verdict, TheVariants.{Yes}}}, versions.Version.{Version, TheVariants.One}}
-use Rattle.tracer.specs.{Versions.{covers, version_of_entry, version_from, version_of}, Verdicts.IsTraceOfRun, Judging.{TextProgress, text_start, step}}
-use Rattle.tracer.specs.Judging.{after_line, line_pieces, lines_in, verdict_from, verdict_of, head_line, end_line, count_line, capacity_line, entries_line}
-use Rattle.tracer.specs.{Judging.left_line, TraceText.{text_line, head_pieces, count_pieces, cap_pieces, entry_pieces, left_pieces, end_pieces, numbered}}
-use Rattle.tracer.{specs.TraceText.{lines_of, spelling, IsEntryOf, IsSpellable, AreItemsOf}, proofs.{KnownLemmas.known_fresh_from, EntryLemmas.progress}}
-use Rattle.tracer.proofs.{StepLemmas.{left_line_taken, entries_taken}, VersionLemmas.{covers_first_one, covers_both, version_more}}
-use Rattle.tracer.proofs.OpeningLemmas.{head_taken, end_taken, count_line_taken, opened, capacity_line_taken}
+use Rattle.tracer.specs.{declared.{verdicts.{Reason.Reason, Verdict.{Verdict, TheVariants.Yes}}, versions.Version.{Version, TheVariants.One}}, Versions.covers}
+use Rattle.tracer.specs.{Versions.{version_of_entry, version_from, version_of}, Verdicts.IsTraceOfRun, Judging.{TextProgress, text_start, step, after_line}}
+use Rattle.tracer.specs.Judging.{line_pieces, lines_in, verdict_from, verdict_of, head_line, end_line, count_line, capacity_line, entries_line, left_line}
+use Rattle.tracer.specs.TraceText.{text_line, head_pieces, count_pieces, cap_pieces, entry_pieces, left_pieces, end_pieces, numbered, lines_of, spelling}
+use Rattle.tracer.{specs.TraceText.{IsEntryOf, IsSpellable, AreItemsOf}, proofs.{KnownLemmas.known_fresh_from, EntryLemmas.progress}}
+use Rattle.tracer.proofs.{StepLemmas.{left_line_taken, entries_taken}, VersionLemmas.{covers_first_one, covers_both, version_more}, OpeningLemmas.head_taken}
+use Rattle.tracer.proofs.OpeningLemmas.{end_taken, count_line_taken, opened, capacity_line_taken}
 use Rattle.tracer.specs.declared.next_lines.NextLine.TheVariants as wants
 
 -- ---- one line

@@ -1,21 +1,19 @@
 -- Each line after the capacities is accepted at its place, and a line that is accepted is spelled
 -- so.
-use Rattle.std.proofs.lemmas.Bool.{cases_Bool}
-use Rattle.std.proofs.Common.{◌==◌, ◌≡◌, ℕ, ◌+◌, ◌<◌, ◌≤◌, ◌^◌, true, false, cond, List, [], ◌∷◌, ◌++◌, length, get_or, map, Option, Some, None, Ok}
-use Rattle.std.proofs.{Common.{refl, sym, ap, ◌∙◌, inl, inr, ◌⊎◌, lt-ltb, ltb-true, lit<, arith}, lemmas.{List.length_push, Slice.Eq.bytes_eq-Decides}}
-use Rattle.std.{proofs.lemmas.{Option.slice_get_within, Bool.and_parts}, specs.{Prelude.{decimal, codes, nat_lt, slice_get}, Str.bytes_eq, List.AllByRecursion}}
+use Rattle.std.proofs.{lemmas.{Bool.{cases_Bool, and_parts}, List.length_push, Slice.Eq.bytes_eq-Decides, Option.slice_get_within}, Common.{◌==◌, ◌≡◌, ℕ, ◌+◌}}
+use Rattle.std.proofs.Common.{◌<◌, ◌≤◌, ◌^◌, true, false, cond, List, [], ◌∷◌, ◌++◌, length, get_or, map, Option, Some, None, Ok, refl, sym, ap, ◌∙◌, inl, inr}
+use Rattle.std.{proofs.Common.{◌⊎◌, lt-ltb, ltb-true, lit<, arith}, specs.{Prelude.{decimal, codes, nat_lt, slice_get}, Str.bytes_eq, List.AllByRecursion}}
 use Rattle.std.specs.List.{list_all, join_with_byte}
-use Rattle.event_log.specs.{Messages.Message, declared.{ids.TheConstants.{BUFFERS, ENTRIES}, entries.{Entry.Entry, Kind.Kind}}}
-use Rattle.event_log.specs.{declared.entries.Kind.TheVariants.{Close, RecvClosed}, Buffers.items_of, Runs.{IsNext, after_entry}}
+use Rattle.event_log.specs.{Messages.Message, declared.{ids.TheConstants.{BUFFERS, ENTRIES}, entries.{Entry.Entry, Kind.{Kind, TheVariants.Close}}}}
+use Rattle.event_log.specs.{declared.entries.Kind.TheVariants.RecvClosed, Buffers.items_of, Runs.{IsNext, after_entry}}
 use Rattle.tracer.specs.declared.{verdicts.Reason.TheVariants.{Spelling, Range, Left}, next_lines.NextLine.NextLine, versions.Version.Version}
-use Rattle.tracer.specs.{TraceText.{kind_word, message_text, value_piece, entry_pieces, left_pieces, IsValueOf, IsEntryOf, AreItemsOf}, Versions.{covers}}
-use Rattle.tracer.specs.{Versions.{version_of_kind, version_of_message, version_of_entry}, Judging.{Digits, Seen, TextProgress, or_reason}}
-use Rattle.tracer.specs.Judging.{is_within, are_values, is_left, is_of_version, spells_message, spells_value}
-use Rattle.tracer.{specs.Judging.{entry_digits, entry_in, entry_among, entry_line, left_digits, left_line, entries_line, step}, proofs.SplitLemmas.Lacks}
-use Rattle.tracer.proofs.{SplitLemmas.{IsLine, decimal_lacks, pieces_again}, ReadLemmas.{bind_ok, wanted_ok, same_ok, piece_taken, word_taken, is_value_taken}}
-use Rattle.tracer.proofs.{ReadLemmas.is_value_again, VersionLemmas.{covers_both, version_more}, KnownLemmas.{same_some, seen_of, length-known_from}}
-use Rattle.tracer.proofs.{KnownLemmas.{slice_get-known, among_again, among_taken}, EntryLemmas.{progress, behind_e, shape_of, of_version_again}}
-use Rattle.tracer.proofs.{EntryLemmas.{entry_digits_taken, entry_digits_again, entry_in_taken, entry_in_again}}
+use Rattle.tracer.specs.{TraceText.{kind_word, message_text, value_piece, entry_pieces, left_pieces, IsValueOf, IsEntryOf, AreItemsOf}, Versions.covers}
+use Rattle.tracer.specs.{Versions.{version_of_kind, version_of_message, version_of_entry}, Judging.{Digits, Seen, TextProgress, or_reason, is_within}}
+use Rattle.tracer.specs.Judging.{are_values, is_left, is_of_version, spells_message, spells_value, entry_digits, entry_in, entry_among, entry_line, left_digits}
+use Rattle.tracer.{specs.Judging.{left_line, entries_line, step}, proofs.{SplitLemmas.{Lacks, IsLine, decimal_lacks, pieces_again}, ReadLemmas.bind_ok}}
+use Rattle.tracer.proofs.{ReadLemmas.{wanted_ok, same_ok, piece_taken, word_taken, is_value_taken, is_value_again}, VersionLemmas.{covers_both, version_more}}
+use Rattle.tracer.proofs.{KnownLemmas.{same_some, seen_of, length-known_from, slice_get-known, among_again, among_taken}, EntryLemmas.{progress, behind_e}}
+use Rattle.tracer.proofs.EntryLemmas.{shape_of, of_version_again, entry_digits_taken, entry_digits_again, entry_in_taken, entry_in_again}
 use Rattle.tracer.proofs.MessageLemmas.{spells_message_again, is_message_again, is_within_again, message_lacks, item_taken, is_message_taken}
 use Rattle.tracer.specs.declared.next_lines.NextLine.TheVariants as wants
 

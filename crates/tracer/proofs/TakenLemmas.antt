@@ -1,6 +1,5 @@
 -- Two orders of the same traces that each take the first trace that is ready are one.
-use Rattle.std.proofs.Common.{◌≡◌, inl, inr, List, [], ◌∷◌, ◌++◌, length, refl, sym, ◌∙◌, arith, slice_set}
-use Rattle.std.proofs.lemmas.Bool.{cases_eq, cases_lt}
+use Rattle.std.proofs.{Common.{◌≡◌, inl, inr, List, [], ◌∷◌, ◌++◌, length, refl, sym, ◌∙◌, arith, slice_set}, lemmas.Bool.{cases_eq, cases_lt}}
 use Rattle.{event_log.specs.{declared.entries.Entry.Entry, Traces.IsInterleaving}, tracer.specs.{Gather.TakesFirstReadyFrom, OneOrder.OneOrderIsTaken}}
 use Rattle.tracer.proofs.{OrderLemmas.at_head, GatherLemmas.{left_of, all_used, left_of_more}}
 

@@ -1,7 +1,6 @@
 -- A step on one buffer is a step among the buffers.
-use Rattle.std.proofs.Common.{◌≡◌, ℕ, ◌<◌, ◌≤◌, List, length, get_or, set, map, Option, Some, Result, Ok, Err, ap, ◌∙◌, arith}
-use Rattle.std.{proofs.lemmas.{List.{map-set, length-map}, Option.{slice_get-map, slice_get-get_or, slice_get_past}}, specs.Prelude.{slice_get, slice_set}}
-use Rattle.std.specs.Prelude.{option_map}
+use Rattle.std.proofs.{Common.{◌≡◌, ℕ, ◌<◌, ◌≤◌, List, length, get_or, set, map, Option, Some, Result, Ok, Err, ap, ◌∙◌, arith}, lemmas.List.map-set}
+use Rattle.std.{proofs.lemmas.{List.length-map, Option.{slice_get-map, slice_get-get_or, slice_get_past}}, specs.Prelude.{slice_get, slice_set, option_map}}
 use Rattle.event_log.specs.{declared.entries.Entry.Entry, Reading.{◌>>=◌}}
 use Rattle.tracer.specs.{declared.{verdicts.Reason.{Reason, TheVariants.Range}, tally.Tally.Tally}, Judging.{Seen, or_range, entry_on, entry_among}}
 use Rattle.tracer.specs.Tallies.{seen_in, StepsTo}

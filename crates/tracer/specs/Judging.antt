@@ -1,13 +1,21 @@
 -- How a trace text is judged: line by line, up to the first fault.
-use Rattle.std.specs.Prelude.{◌-◌, ◌≡◌, ℕ, ◌+◌, Bool, true, false, ◌&&◌, ◌==◌, nat_lt, nat_le, List, [], ◌∷◌, ◌++◌, length, codes, is_ok, Option, Some, None}
-use Rattle.std.specs.{Prelude.{Result, Ok, Err, slice_get, slice_set, if◌then◌else◌}, List.{list_all, slice_split}, Str.bytes_eq}
-use Rattle.event_log.specs.{Messages.{Message, no_message}, declared.{messages.TheConstants.WORDS, ids.TheConstants.{CPUS, THREADS, BUFFERS, CAPACITY}}}
-use Rattle.event_log.specs.declared.{ids.TheConstants.ENTRIES, entries.{Kind.{Kind, TheVariants.{Send, Recv, Close, SendClosed, RecvClosed}}, Entry.Entry}}
-use Rattle.event_log.specs.{Runs.{Group, Sends, Receives, Closes, group_of, same_group}, Digits.{is_number, number_to}, Reading.{◌>>=◌}}
-use Rattle.tracer.specs.declared.verdicts.Reason.{Reason, TheVariants.{Spelling, Range, Op, Pos, Full, EmptyTake, WrongValue, Left, OfVersion, CloseState}}
-use Rattle.tracer.specs.declared.{verdicts.{Reason.TheVariants.NotEmpty, Verdict.{Verdict, TheVariants.{Yes, No}}}, next_lines.NextLine.NextLine}
-use Rattle.tracer.specs.{declared.versions.Version.{Version, TheVariants.{One, Two, Three}}, Versions.{covers, both, version_of_kind, version_of_count}}
-use Rattle.tracer.specs.Versions.{version_of_entry}
+use Rattle.std.specs.Prelude.{◌-◌, ◌≡◌, ℕ, ◌+◌, Bool, true, false, ◌&&◌, ◌==◌, nat_lt, nat_le, List}
+use Rattle.std.specs.Prelude.{[], ◌∷◌, ◌++◌, length, codes, is_ok, Option, Some, None, Result, Ok}
+use Rattle.std.specs.{Prelude.{Err, slice_get, slice_set, if◌then◌else◌}, List.list_all}
+use Rattle.std.specs.{List.slice_split, Str.bytes_eq}
+use Rattle.event_log.specs.{Messages.{Message, no_message}, declared.messages.TheConstants.WORDS}
+use Rattle.event_log.specs.declared.ids.TheConstants.{CPUS, THREADS, BUFFERS, CAPACITY, ENTRIES}
+use Rattle.event_log.specs.declared.entries.Kind.{Kind, TheVariants.{Send, Recv, Close, SendClosed}}
+use Rattle.event_log.specs.{declared.entries.{Kind.TheVariants.RecvClosed, Entry.Entry}, Runs.Group}
+use Rattle.event_log.specs.{Runs.{Sends, Receives, Closes, group_of, same_group}, Digits.is_number}
+use Rattle.event_log.specs.{Digits.number_to, Reading.{◌>>=◌}}
+use Rattle.tracer.specs.declared.verdicts.Reason.{Reason, TheVariants.{Spelling, Range, Op, Pos}}
+use Rattle.tracer.specs.declared.verdicts.Reason.TheVariants.{Full, EmptyTake, WrongValue, Left}
+use Rattle.tracer.specs.declared.verdicts.Reason.TheVariants.{OfVersion, CloseState, NotEmpty}
+use Rattle.tracer.specs.declared.verdicts.Verdict.{Verdict, TheVariants.{Yes, No}}
+use Rattle.tracer.specs.declared.{next_lines.NextLine.NextLine, versions.Version.Version}
+use Rattle.tracer.specs.{declared.versions.Version.TheVariants.{One, Two, Three}, Versions.covers}
+use Rattle.tracer.specs.Versions.{both, version_of_kind, version_of_count, version_of_entry}
 use Rattle.tracer.specs.declared.next_lines.NextLine.TheVariants as wants
 
 -- what a function returned, under its view, is what reading gives
@@ -72,7 +80,8 @@ pub record Seen : Type 0 where
 
 -- a buffer that had no effect
 abbrev pub fresh : ℕ → Seen
-fresh capacity = record { capacity = capacity; items = []; ops = 0; sends = 0; recvs = 0; closes = 0 }
+fresh capacity =
+    record { capacity = capacity; items = []; ops = 0; sends = 0; recvs = 0; closes = 0 }
 
 -- The judge's progress in the text: which line is expected, and the version of the head. Further it
 -- has the lowest version that can spell the entries so far, the buffers, and how many entries there
@@ -114,7 +123,8 @@ seen_behind group items seen = record {
 
 -- a send needs room
 abbrev pub put_if_room : Message → ℕ → List Message → Result (List Message) Reason
-put_if_room value capacity items = or_reason (nat_lt (length items) capacity) Full (Ok (items ++ value ∷ []))
+put_if_room value capacity items =
+    or_reason (nat_lt (length items) capacity) Full (Ok (items ++ value ∷ []))
 
 -- a receive needs its value as the first item
 abbrev pub take_first : Message → List Message → Result (List Message) Reason
@@ -123,17 +133,20 @@ take_first value (first ∷ rest) = or_reason (bytes_eq first value) WrongValue 
 
 -- the items that an effect leaves, of a buffer that is closed or not
 abbrev pub item_effect : Kind → Message → Bool → ℕ → List Message → Result (List Message) Reason
-item_effect Send value closed capacity items = if closed then Err CloseState else put_if_room value capacity items
+item_effect Send value closed capacity items =
+    if closed then Err CloseState else put_if_room value capacity items
 item_effect Recv value closed capacity items = take_first value items
 item_effect Close value closed capacity items = Ok items
 item_effect SendClosed value closed capacity items = or_reason closed CloseState (Ok items)
-item_effect RecvClosed value closed capacity items = or_reason closed CloseState (or_reason (length items == 0) NotEmpty (Ok items))
+item_effect RecvClosed value closed capacity items =
+    or_reason closed CloseState (or_reason (length items == 0) NotEmpty (Ok items))
 
 -- the buffer after an entry
 unfoldable pub entry_on : Entry → Seen → Result Seen Reason
 entry_on e seen = or_reason (e.op == seen.ops) Op
     (or_reason (e.pos == next_pos (group_of e.kind) seen) Pos
-    (item_effect e.kind e.value (was_closed seen) seen.capacity seen.items >>= λ items. Ok (seen_behind (group_of e.kind) items seen)))
+    (item_effect e.kind e.value (was_closed seen) seen.capacity seen.items >>= λ items. Ok
+    (seen_behind (group_of e.kind) items seen)))
 
 -- ---- the lines
 
@@ -172,21 +185,26 @@ comma_parts piece = slice_split (λ b. b == 44) piece
 
 -- whether the piece spells a message, of any size, as a text of this version may
 abbrev pub spells_message : Version → List ℕ → Bool
-spells_message v piece = covers v (version_of_count (length (comma_parts piece))) && list_all is_number (comma_parts piece)
+spells_message v piece =
+    covers v (version_of_count (length (comma_parts piece)))
+    && list_all is_number (comma_parts piece)
 
 -- the numbers, if each of them has 64 bits
 abbrev pub numbers_in : List (List ℕ) → Result (List ℕ) Reason
 numbers_in [] = Ok []
-numbers_in (word ∷ words) = in_range 18446744073709551615 word >>= λ n. numbers_in words >>= λ ns. Ok (n ∷ ns)
+numbers_in (word ∷ words) =
+    in_range 18446744073709551615 word >>= λ n. numbers_in words >>= λ ns. Ok (n ∷ ns)
 
 -- the message that the piece spells, if it has no more words than a message has
 abbrev pub message_in : List ℕ → Result Message Reason
-message_in piece = or_reason (nat_le (length (comma_parts piece)) WORDS) Range (numbers_in (comma_parts piece))
+message_in piece =
+    or_reason (nat_le (length (comma_parts piece)) WORDS) Range (numbers_in (comma_parts piece))
 
 -- whether the piece spells a message of an effect of this kind, of any size, as a text of this
 -- version may
 abbrev pub spells_value : Version → Kind → List ℕ → Bool
-spells_value v kind piece = if has_message kind then spells_message v piece else bytes_eq piece (codes "-")
+spells_value v kind piece =
+    if has_message kind then spells_message v piece else bytes_eq piece (codes "-")
 
 -- the message that it spells
 abbrev pub value_in : Kind → List ℕ → Result Message Reason
@@ -203,12 +221,21 @@ entry_digits pieces = digits_at pieces
     >>= λ value. digits_at value.1
     >>= λ op. digits_at op.1
     >>= λ pos. ended pos.1
-    >>= λ _. Ok (record { cpu = cpu.0; thread = thread.0; kind = kind; buffer = buffer.0; value = value.0; op = op.0; pos = pos.0 })
+    >>= λ _. Ok (record {
+      cpu = cpu.0;
+      thread = thread.0;
+      kind = kind;
+      buffer = buffer.0;
+      value = value.0;
+      op = op.0;
+      pos = pos.0;
+    })
 
 -- whether a text of this version may have such an entry, and its message is spelled as its kind
 -- requires
 abbrev pub is_of_version : Version → Digits → Bool
-is_of_version v digits = covers v (version_of_kind digits.kind) && spells_value v digits.kind digits.value
+is_of_version v digits =
+    covers v (version_of_kind digits.kind) && spells_value v digits.kind digits.value
 
 -- its numbers, if each is in its range
 unfoldable pub entry_in : Digits → Result Entry Reason
@@ -238,7 +265,12 @@ unfoldable pub entry_line : List (List ℕ) → TextProgress → Result TextProg
 entry_line pieces s = entry_digits pieces
     >>= λ digits. or_reason (is_of_version s.version digits) Spelling (entry_in digits)
     >>= λ e. or_reason (nat_lt s.entries ENTRIES) Range (entry_among e s.buffers)
-    >>= λ buffers. Ok (record s { lowest = both s.lowest (version_of_entry e); buffers = buffers; entries = s.entries + 1 })
+    >>= λ buffers. Ok (record
+    s {
+      lowest = both s.lowest (version_of_entry e);
+      buffers = buffers;
+      entries = s.entries + 1;
+    })
 
 -- the digits of the number of buffers
 unfoldable pub count_digits : List (List ℕ) → Result (List ℕ) Reason
@@ -250,7 +282,8 @@ count_digits pieces = expected_word (codes "buffers") pieces
 unfoldable pub count_line : List (List ℕ) → TextProgress → Result TextProgress Reason
 count_line pieces s = count_digits pieces
     >>= λ digits. in_range BUFFERS digits
-    >>= λ count. or_reason (nat_lt 0 count) Range (Ok (record s { at = wants.Capacities count; buffers = [] }))
+    >>= λ count. or_reason (nat_lt 0 count) Range
+    (Ok (record s { at = wants.Capacities count; buffers = [] }))
 
 -- the digits of the capacity of buffer b
 unfoldable pub capacity_digits : ℕ → List (List ℕ) → Result (List ℕ) Reason
@@ -273,7 +306,8 @@ capacity_line count pieces s = capacity_digits (length s.buffers) pieces
 unfoldable pub left_digits : Version → ℕ → List (List ℕ) → Result (List (List ℕ)) Reason
 left_digits v b pieces = expected_word (codes "left") pieces
     >>= λ rest. piece_at rest
-    >>= λ number. or_reason (is_value number.0 b) Spelling (or_reason (list_all (spells_message v) number.1) Spelling (Ok number.1))
+    >>= λ number. or_reason (is_value number.0 b) Spelling
+    (or_reason (list_all (spells_message v) number.1) Spelling (Ok number.1))
 
 -- exactly this message
 abbrev pub is_same : Result Message Reason → Message → Bool
@@ -303,11 +337,16 @@ unfoldable pub left_line : ℕ → List (List ℕ) → TextProgress → Result T
 left_line b pieces s = left_digits s.version b pieces
     >>= λ values. or_reason (list_all is_within values) Range
     (or_reason (is_left values (slice_get s.buffers b)) Left
-    (Ok (record s { at = if nat_lt (b + 1) (length s.buffers) then wants.Contents (b + 1) else wants.End })))
+    (Ok (record s {
+      at = if nat_lt (b + 1) (length s.buffers) then wants.Contents (b + 1)
+          else wants.End;
+    })))
 
 -- a line whose first piece is `e` is an entry; any other is what is left of the first buffer
 unfoldable pub entries_line : List (List ℕ) → TextProgress → Result TextProgress Reason
-entries_line pieces s = piece_at pieces >>= λ p. if bytes_eq p.0 (codes "e") then entry_line p.1 s else left_line 0 pieces s
+entries_line pieces s =
+    piece_at pieces >>= λ p. if bytes_eq p.0 (codes "e") then entry_line p.1 s
+    else left_line 0 pieces s
 
 -- the version that the head names
 abbrev pub version_in : List ℕ → Result Version Reason
@@ -322,7 +361,9 @@ head_line line s = version_in line >>= λ v. Ok (record s { at = wants.Count; ve
 
 -- the last line, if no lower version than the head's can spell the text
 unfoldable pub end_line : List ℕ → TextProgress → Result TextProgress Reason
-end_line line s = or_reason (bytes_eq line (codes "end")) Spelling (or_reason (covers s.lowest s.version) OfVersion (Ok (record s { at = wants.Done })))
+end_line line s =
+    or_reason (bytes_eq line (codes "end")) Spelling
+    (or_reason (covers s.lowest s.version) OfVersion (Ok (record s { at = wants.Done })))
 
 -- a line after which the text may continue, or the first reason against it
 abbrev pub judged_line : NextLine → TextProgress → List ℕ → Result TextProgress Reason
@@ -356,7 +397,8 @@ after_line (Err reason) n next = No n reason
 abbrev pub verdict_from : TextProgress → ℕ → List (List ℕ) → Verdict
 verdict_from s n [] = No n Spelling
 verdict_from s n (rest ∷ []) = if is_done s.at && length rest == 0 then Yes else No n Spelling
-verdict_from s n (line ∷ next ∷ more) = after_line (step s line) n (λ after. verdict_from after (n + 1) (next ∷ more))
+verdict_from s n (line ∷ next ∷ more) =
+    after_line (step s line) n (λ after. verdict_from after (n + 1) (next ∷ more))
 
 -- the parts between line feeds
 abbrev pub lines_in : List ℕ → List (List ℕ)

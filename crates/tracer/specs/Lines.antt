@@ -1,6 +1,8 @@
 -- The views of the judge's values.
-use Rattle.std.specs.Prelude.{◌≡◌, ◌==◌, ◌<◌, ℕ, List, [], ◌∷◌, ◌++◌, Some, None, false, length, slice_index_or}
-use Rattle.tracer.specs.{declared.pieces.Pieces.Pieces, declared.lines.EntryDigits.EntryDigits, Judging.line_pieces, Judging.Digits}
+use Rattle.std.specs.Prelude.{◌≡◌, ◌==◌, ◌<◌, ℕ, List, [], ◌∷◌, ◌++◌, Some, None, false, length}
+use Rattle.std.specs.Prelude.{slice_index_or}
+use Rattle.tracer.specs.declared.{pieces.Pieces.Pieces, lines.EntryDigits.EntryDigits}
+use Rattle.tracer.specs.Judging.{line_pieces, Digits}
 
 -- the pieces that are still to be read
 abbrev pub left_of : Pieces → List (List ℕ)

@@ -1,6 +1,8 @@
 -- A text that is read and judged in parts.
-use Rattle.{std.specs.Prelude.{ℕ, List, Some, None, length, take}, tracer.specs.declared.{parts.Part.Part, checking.TextJudge.TextJudge}}
-use Rattle.tracer.specs.{declared.verdicts.Verdict.{Verdict, TheVariants.No}, Judging.{lines_in, verdict_from}, Tallies.progress_of}
+use Rattle.std.specs.Prelude.{ℕ, List, Some, None, length, take}
+use Rattle.tracer.specs.declared.{parts.Part.Part, checking.TextJudge.TextJudge}
+use Rattle.tracer.specs.{declared.verdicts.Verdict.{Verdict, TheVariants.No}, Judging.lines_in}
+use Rattle.tracer.specs.{Judging.verdict_from, Tallies.progress_of}
 
 -- the bytes that are read and not yet judged
 abbrev pub held : Part → List ℕ

@@ -1,10 +1,14 @@
 -- The text of a trace: the one spelling of capacities, entries and what is left. The capacities are
 -- a list by buffer number; what is left is a list by buffer number of the buffer's items, front
 -- first.
-use Rattle.std.specs.{Prelude.{◌≡◌, ℕ, ◌+◌, ◌<◌, ◌≤◌, true, List, [], ◌∷◌, ◌++◌, length, map, codes, decimal, flat_map}, List.{AllByRecursion, join_with_byte}}
-use Rattle.event_log.specs.{Messages.{Message, no_message, IsMessage}, Buffers.IsCapacity, declared.ids.TheConstants.{CPUS, THREADS, BUFFERS, ENTRIES}}
-use Rattle.event_log.specs.declared.entries.{Kind.{Kind, TheVariants.{Send, Recv, Close, SendClosed, RecvClosed}}, Entry.Entry}
-use Rattle.tracer.specs.{declared.versions.Version.{Version, TheVariants.{One, Two, Three}}, Versions.{covers, version_of_message, version_of}}
+use Rattle.std.specs.Prelude.{◌≡◌, ℕ, ◌+◌, ◌<◌, ◌≤◌, true, List, [], ◌∷◌, ◌++◌, length, map, codes}
+use Rattle.std.specs.{Prelude.{decimal, flat_map}, List.{AllByRecursion, join_with_byte}}
+use Rattle.event_log.specs.{Messages.{Message, no_message, IsMessage}, Buffers.IsCapacity}
+use Rattle.event_log.specs.declared.ids.TheConstants.{CPUS, THREADS, BUFFERS, ENTRIES}
+use Rattle.event_log.specs.declared.entries.Kind.{Kind, TheVariants.{Send, Recv, Close, SendClosed}}
+use Rattle.event_log.specs.declared.entries.{Kind.TheVariants.RecvClosed, Entry.Entry}
+use Rattle.tracer.specs.declared.versions.Version.{Version, TheVariants.{One, Two, Three}}
+use Rattle.tracer.specs.Versions.{covers, version_of_message, version_of}
 
 -- a line: its pieces with one space between each two, and a line feed
 abbrev pub text_line : List (List ℕ) → List ℕ
@@ -48,7 +52,9 @@ value_piece RecvClosed value = codes "-"
 
 -- an entry
 abbrev pub entry_pieces : Entry → List (List ℕ)
-entry_pieces e = codes "e" ∷ decimal e.cpu.0 ∷ decimal e.thread.0 ∷ kind_word e.kind ∷ decimal e.buffer.0 ∷ value_piece e.kind e.value ∷ decimal e.op
+entry_pieces e =
+    codes "e" ∷ decimal e.cpu.0 ∷ decimal e.thread.0 ∷ kind_word e.kind ∷ decimal e.buffer.0
+    ∷ value_piece e.kind e.value ∷ decimal e.op
     ∷ decimal e.pos ∷ []
 
 -- what is left in a buffer, front first
@@ -67,7 +73,8 @@ numbered line b (x ∷ xs) = line b x ∷ numbered line (b + 1) xs
 -- entries
 unfoldable pub lines_of : List ℕ → List Entry → List (List Message) → List (List (List ℕ))
 lines_of caps es left = head_pieces (version_of es) ∷ count_pieces
-    (length caps) ∷ (numbered cap_pieces 0 caps ++ (map entry_pieces es ++ (numbered left_pieces 0 left ++ end_pieces ∷ [])))
+    (length caps) ∷ (numbered cap_pieces 0 caps
+    ++ (map entry_pieces es ++ (numbered left_pieces 0 left ++ end_pieces ∷ [])))
 
 -- the one spelling
 unfoldable pub spelling : List ℕ → List Entry → List (List Message) → List ℕ
@@ -111,6 +118,7 @@ pub record IsSpellable (caps : List ℕ) (es : List Entry) (left : List (List Me
   pub values : AllByRecursion (AreItemsOf (version_of es)) left
 
 -- the text is the trace text of these capacities, entries and contents
-pub record IsTraceText (text : List ℕ) (caps : List ℕ) (es : List Entry) (left : List (List Message)) : Type 0 where
+pub record IsTraceText (text : List ℕ) (caps : List ℕ) (es : List Entry)
+    (left : List (List Message)) : Type 0 where
   pub spellable : IsSpellable caps es left
   pub spelled : text ≡ spelling caps es left

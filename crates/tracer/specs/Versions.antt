@@ -1,6 +1,8 @@
 -- Which version of the trace text can spell a trace.
 use Rattle.std.specs.Prelude.{ℕ, Bool, true, false, List, [], ◌∷◌, length, nat_lt, if◌then◌else◌}
-use Rattle.event_log.specs.{Messages.Message, declared.entries.{Kind.{Kind, TheVariants.{Send, Recv, Close, SendClosed, RecvClosed}}, Entry.Entry}}
+use Rattle.event_log.specs.{Messages.Message, declared.entries.Kind.{Kind, TheVariants.Send}}
+use Rattle.event_log.specs.declared.entries.Kind.TheVariants.{Recv, Close, SendClosed, RecvClosed}
+use Rattle.event_log.specs.declared.entries.Entry.{Entry}
 use Rattle.tracer.specs.declared.versions.Version.{Version, TheVariants.{One, Two, Three}}
 
 -- a text of the first version can hold all that one of the other can

@@ -51,7 +51,9 @@ impl TextJudge {
     pub fn take_lines(&mut self, part: &[u8]) -> usize
         requires { self.old.line + length part.now < 2 ^ 64 }
         ensures inside { result ≤ length part.now }
-        ensures judged { (more : List ℕ) → verdict_behind self.old (part.now ++ more) ≡ verdict_behind self.new (drop result part.now ++ more) }
+        ensures judged { (more : List ℕ)
+            → verdict_behind self.old (part.now ++ more)
+            ≡ verdict_behind self.new (drop result part.now ++ more) }
         ensures rest { lines_in (drop result part.now) ≡ drop result part.now ∷ [] }
     {
         if self.fault.is_some() {

@@ -15,7 +15,8 @@ use event_log::Entry;
 /// judged after an error, so the buffer need not be as before.
 pub fn enter_among(buffers: &mut [Tally], entry: &Entry) -> Result<(), Reason>
     requires { (entry.now.op < ENTRIES) × (entry.now.pos < ENTRIES) }
-    ensures { StepsTo (entry_among entry.now (map seen_in buffers.old)) result (map seen_in buffers.new) }
+    ensures { StepsTo (entry_among entry.now (map seen_in buffers.old)) result
+        (map seen_in buffers.new) }
 {
     let b = usize::from(entry.buffer.0);
     if b >= buffers.len() {

@@ -48,7 +48,8 @@ const NAMES: usize = 256;
 /// memory is taken before the first entry is.
 pub fn gather<'t>(alloc: Global, traces: &[&'t [Entry]]) -> Result<Vec<&'t Entry>, GatherError>
     ensures order { IfOk result (λ out. IsOrder (traces_in traces.now) (entries_in out.items)) }
-    ensures greedy { IfOk result (λ out. TakesFirstReady (traces_in traces.now) (entries_in out.items)) }
+    ensures greedy { IfOk result
+        (λ out. TakesFirstReady (traces_in traces.now) (entries_in out.items)) }
     ensures none { IsErrOf result GatherError.NoOrder → HasNoOrder (traces_in traces.now) }
 {
     let (mut order, total) = room_for(alloc, traces)?;
@@ -111,10 +112,13 @@ fn first_ready<'t>(
     counts: &[u64; NAMES],
 ) -> Option<(usize, &'t Entry)>
     requires { length taken.now ≡ length traces.now }
-    ensures found { IfSome result (λ f. next_entry (traces_in traces.now) taken.now f.0 ≡ Some f.1.now) }
+    ensures found { IfSome result
+        (λ f. next_entry (traces_in traces.now) taken.now f.0 ≡ Some f.1.now) }
     ensures due { IfSome result (λ f. IsNextOp counts.now f.1.now) }
-    ensures first { IfSome result (λ f. NoneDueBelow (traces_in traces.now) taken.now counts.now f.0) }
-    ensures none { IfNone result (NoneDueBelow (traces_in traces.now) taken.now counts.now (length traces.now)) }
+    ensures first { IfSome result
+        (λ f. NoneDueBelow (traces_in traces.now) taken.now counts.now f.0) }
+    ensures none { IfNone result
+        (NoneDueBelow (traces_in traces.now) taken.now counts.now (length traces.now)) }
 {
     for (i, &trace) in traces.iter().enumerate() {
         if let Some(entry) = trace.get(taken[i]) {

@@ -80,7 +80,8 @@ impl Judge {
     #[inline(always)]
     pub fn next_line<'a>(&mut self, text: &'a [u8]) -> (Result<(), Reason>, &'a [u8])
         requires { EndsInLine text.now }
-        ensures { StepsOver (progress_of self.old) text.now result.0 (progress_of self.new) result.1.now }
+        ensures { StepsOver (progress_of self.old) text.now result.0 (progress_of self.new)
+            result.1.now }
     {
         if matches!(self.at, NextLine::Entries) {
             if let Some((entry, behind)) = common_entry(text) {
@@ -113,7 +114,8 @@ impl Judge {
     /// The head, after which the count may come.
     #[tactic(auto, unfolding(crate::specs::Judging::head_line))]
     fn head(&mut self, line: &[u8]) -> Result<(), Reason>
-        ensures { StepsTo (head_line line.now (progress_of self.old)) result (progress_of self.new) }
+        ensures { StepsTo (head_line line.now (progress_of self.old)) result
+            (progress_of self.new) }
     {
         self.version = version_in(line)?;
         self.at = NextLine::Count;
@@ -138,7 +140,8 @@ impl Judge {
     /// The line of the number of buffers.
     #[tactic(auto, unfolding(crate::specs::Judging::count_line))]
     fn count(&mut self, pieces: Pieces<'_>) -> Result<(), Reason>
-        ensures { StepsTo (count_line (left_of pieces.entry) (progress_of self.old)) result (progress_of self.new) }
+        ensures { StepsTo (count_line (left_of pieces.entry) (progress_of self.old)) result
+            (progress_of self.new) }
     {
         let digits = count_digits(pieces)?;
         let count = digits.up_to(BUFFERS as u64)?;
@@ -154,7 +157,8 @@ impl Judge {
     #[tactic(auto, unfolding(crate::specs::Judging::capacity_line))]
     fn capacity(&mut self, count: usize, pieces: Pieces<'_>) -> Result<(), Reason>
         requires { self.old.at ≡ WantsCapacities count }
-        ensures { StepsTo (capacity_line count (left_of pieces.entry) (progress_of self.old)) result (progress_of self.new) }
+        ensures { StepsTo (capacity_line count (left_of pieces.entry) (progress_of self.old)) result
+            (progress_of self.new) }
     {
         let digits = capacity_digits(self.buffers.len() as u64, pieces)?;
         let capacity = digits.up_to(CAPACITY as u64)?;
@@ -171,7 +175,8 @@ impl Judge {
     /// The line of an entry, from its second piece on.
     #[tactic(auto, unfolding(crate::specs::Judging::entry_line, crate::specs::Steps::judged_entry))]
     fn entry(&mut self, pieces: Pieces<'_>) -> Result<(), Reason>
-        ensures { StepsTo (entry_line (left_of pieces.entry) (progress_of self.old)) result (progress_of self.new) }
+        ensures { StepsTo (entry_line (left_of pieces.entry) (progress_of self.old)) result
+            (progress_of self.new) }
     {
         let digits = entry_digits(pieces)?;
         if !is_of_version(self.version, digits) {
@@ -191,7 +196,8 @@ impl Judge {
     #[inline(always)]
     fn enter(&mut self, entry: &Entry) -> Result<(), Reason>
         requires { (entry.now.op < ENTRIES) × (entry.now.pos < ENTRIES) }
-        ensures { StepsTo (judged_entry entry.now (progress_of self.old)) result (progress_of self.new) }
+        ensures { StepsTo (judged_entry entry.now (progress_of self.old)) result
+            (progress_of self.new) }
     {
         if self.entries >= ENTRIES as u64 {
             return Err(Reason::Range);
@@ -205,7 +211,8 @@ impl Judge {
     /// The line of what is left of buffer `b`.
     #[tactic(auto, unfolding(crate::specs::Judging::left_line))]
     fn left(&mut self, b: usize, pieces: Pieces<'_>) -> Result<(), Reason>
-        ensures { StepsTo (left_line b (left_of pieces.entry) (progress_of self.old)) result (progress_of self.new) }
+        ensures { StepsTo (left_line b (left_of pieces.entry) (progress_of self.old)) result
+            (progress_of self.new) }
     {
         let values = left_digits(self.version, b as u64, pieces)?;
         if !are_within(values) {
@@ -225,7 +232,8 @@ impl Judge {
 
     /// Whether the pieces spell what buffer `b` holds.
     fn holds(&self, b: usize, values: Pieces<'_>) -> bool
-        ensures exact { result ≡ is_left (left_of values.entry) (slice_get (progress_of self.now).buffers b) }
+        ensures exact { result
+            ≡ is_left (left_of values.entry) (slice_get (progress_of self.now).buffers b) }
         ensures known { result ≡ true → b < length self.now.buffers.items }
     {
         match self.buffers.get(b) {
@@ -237,7 +245,8 @@ impl Judge {
     /// The line of an entry, or of what is left of the first buffer.
     #[tactic(auto, unfolding(crate::specs::Judging::entries_line))]
     fn entry_or_left(&mut self, pieces: Pieces<'_>) -> Result<(), Reason>
-        ensures { StepsTo (entries_line (left_of pieces.entry) (progress_of self.old)) result (progress_of self.new) }
+        ensures { StepsTo (entries_line (left_of pieces.entry) (progress_of self.old)) result
+            (progress_of self.new) }
     {
         let (first, rest) = piece(pieces)?;
         if first == b"e".as_slice() {

@@ -26,7 +26,9 @@ fn fill_behind<R: Read>(
     requires { at ≤ length bytes.old }
     ensures length { length bytes.new ≡ length bytes.old }
     ensures fits { IfOk result (λ r. r.0 ≤ length bytes.new) }
-    ensures read { IfOk result (λ r. IsReadBehind (take at bytes.old) (take r.0 bytes.new) (R.remaining input.old) (R.remaining input.new)) }
+    ensures read { IfOk result
+        (λ r. IsReadBehind (take at bytes.old) (take r.0 bytes.new) (R.remaining input.old)
+        (R.remaining input.new)) }
     ensures end { IfOk result (λ r. r.1 ≡ true → IsAtEnd (R.remaining input.new)) }
     ensures full { IfOk result (λ r. r.1 ≡ false → r.0 ≡ length bytes.new) }
     ensures retried { IfErr result (λ failed. failed.kind ≢ Interrupted) }
@@ -79,7 +81,9 @@ impl Part {
     pub fn fill<R: Read>(&mut self, input: &mut R) -> Result<bool, ReadFailed>
         ensures room { bytes_room self.new ≡ bytes_room self.old }
         ensures full { result ≡ Ok false → length (held self.new) ≡ bytes_room self.new }
-        ensures read { OnOk result (IsReadBehind (held self.old) (held self.new) (R.remaining input.old) (R.remaining input.new)) }
+        ensures read { OnOk result
+            (IsReadBehind (held self.old) (held self.new) (R.remaining input.old)
+            (R.remaining input.new)) }
         ensures end { result ≡ Ok true → IsAtEnd (R.remaining input.new) }
         ensures retried { IfErr result (λ failed. failed.kind ≢ Interrupted) }
     {
@@ -106,7 +110,8 @@ impl Part {
     /// Errors: `NoMemory` if the room was refused; it holds the same.
     pub fn make_room(&mut self) -> Result<(), NoMemory>
         ensures held { held self.new ≡ held self.old }
-        ensures kept { length (held self.old) < bytes_room self.old → bytes_room self.new ≡ bytes_room self.old }
+        ensures kept { length (held self.old) < bytes_room self.old
+            → bytes_room self.new ≡ bytes_room self.old }
         ensures twice { OnOk result (bytes_room self.new ≤ 2 * bytes_room self.old) }
         ensures more { OnOk result (length (held self.new) < bytes_room self.new) }
     {

@@ -12,7 +12,8 @@ use event_log::{leading_digits, number_to};
 #[inline(always)]
 pub fn cut(text: &[u8], at: u8) -> Option<(&[u8], &[u8])>
     ensures none { IfNone result (slice_split (λ b. b == at) text.now ≡ text.now ∷ []) }
-    ensures some { IfSome result (λ p. slice_split (λ b. b == at) text.now ≡ p.0.now ∷ slice_split (λ b. b == at) p.1.now) }
+    ensures some { IfSome result
+        (λ p. slice_split (λ b. b == at) text.now ≡ p.0.now ∷ slice_split (λ b. b == at) p.1.now) }
     ensures shorter { IfSome result (λ p. length p.0.now + 1 + length p.1.now ≡ length text.now) }
 {
     for (i, byte) in text.iter().enumerate() {
@@ -58,10 +59,12 @@ fn chunk_with(text: &[u8], at: u8) -> usize
 /// than a piece, so its end is looked for a chunk at a time.
 pub fn cut_line(text: &[u8]) -> Option<(&[u8], &[u8])>
     ensures none { IfNone result (slice_split (λ b. b == 10) text.now ≡ text.now ∷ []) }
-    ensures some { IfSome result (λ p. slice_split (λ b. b == 10) text.now ≡ p.0.now ∷ slice_split (λ b. b == 10) p.1.now) }
+    ensures some { IfSome result
+        (λ p. slice_split (λ b. b == 10) text.now ≡ p.0.now ∷ slice_split (λ b. b == 10) p.1.now) }
     ensures shorter { IfSome result (λ p. length p.0.now + 1 + length p.1.now ≡ length text.now) }
     ensures line { IfSome result (λ p. IsFirstLine text.now p.0.now p.1.now) }
-    ensures lacks { IfNone result ((k : ℕ) → k < length text.now → (get_or text.now k 0 == 10) ≡ false) }
+    ensures lacks { IfNone result
+        ((k : ℕ) → k < length text.now → (get_or text.now k 0 == 10) ≡ false) }
 {
     for end in chunk_with(text, b'\n')..text.len() {
         if text[end] == b'\n' {
@@ -134,7 +137,8 @@ fn short_number(text: &[u8]) -> Option<(Numeral<'_>, Pieces<'_>)>
 /// Errors: `Spelling` if no piece is left.
 #[inline(always)]
 pub fn numeral(pieces: Pieces<'_>) -> Result<(Numeral<'_>, Pieces<'_>), Reason>
-    ensures { GivesOrReason (λ x. (x.0.text.now, left_of x.1)) result (piece_at (left_of pieces.entry)) }
+    ensures { GivesOrReason (λ x. (x.0.text.now, left_of x.1)) result
+        (piece_at (left_of pieces.entry)) }
 {
     let Some(text) = pieces.rest else {
         return Err(Reason::Spelling);
@@ -153,7 +157,8 @@ pub fn numeral(pieces: Pieces<'_>) -> Result<(Numeral<'_>, Pieces<'_>), Reason>
 /// Errors: `Spelling` if no piece is left, or the next one spells no number.
 #[inline(always)]
 pub fn digits(pieces: Pieces<'_>) -> Result<(Numeral<'_>, Pieces<'_>), Reason>
-    ensures { GivesOrReason (λ x. (x.0.text.now, left_of x.1)) result (digits_at (left_of pieces.entry)) }
+    ensures { GivesOrReason (λ x. (x.0.text.now, left_of x.1)) result
+        (digits_at (left_of pieces.entry)) }
 {
     let (front, rest) = numeral(pieces)?;
     if !front.is_number() {

@@ -29,8 +29,11 @@ fn read_once<R: Read>(bytes: &mut [u8], at: usize, input: &mut R) -> io::Result<
     ensures length { length bytes.new ≡ length bytes.old }
     ensures front { take at bytes.new ≡ take at bytes.old }
     ensures fits { IfOk result (λ n. at + n ≤ length bytes.new) }
-    ensures read { IfOk result (λ n. Consumes (R.remaining input.old) (R.remaining input.new) (take n (drop at bytes.new))) }
-    ensures end { IfOk result (λ n. n ≡ 0 → at < length bytes.old → IsAtEnd (R.remaining input.new)) }
+    ensures read { IfOk result
+        (λ n. Consumes (R.remaining input.old) (R.remaining input.new)
+        (take n (drop at bytes.new))) }
+    ensures end { IfOk result
+        (λ n. n ≡ 0 → at < length bytes.old → IsAtEnd (R.remaining input.new)) }
     ensures kept { OnErr result (Keeps (R.remaining input.old) (R.remaining input.new)) }
 {
     input.read(&mut bytes[at..])
@@ -51,8 +54,11 @@ pub(crate) fn read_behind<R: Read>(
     ensures length { length bytes.new ≡ length bytes.old }
     ensures front { take at bytes.new ≡ take at bytes.old }
     ensures fits { IfOk result (λ n. at + n ≤ length bytes.new) }
-    ensures read { IfOk result (λ n. Consumes (R.remaining input.old) (R.remaining input.new) (take n (drop at bytes.new))) }
-    ensures end { IfOk result (λ n. n ≡ 0 → at < length bytes.old → IsAtEnd (R.remaining input.new)) }
+    ensures read { IfOk result
+        (λ n. Consumes (R.remaining input.old) (R.remaining input.new)
+        (take n (drop at bytes.new))) }
+    ensures end { IfOk result
+        (λ n. n ≡ 0 → at < length bytes.old → IsAtEnd (R.remaining input.new)) }
     ensures retried { IfErr result (λ failed. failed.kind ≢ Interrupted) }
 {
     for _ in 0..u64::MAX {

@@ -87,7 +87,8 @@ impl<W: Write> Sink<W> {
     pub fn flush(&mut self) -> Result<(), WriteFault>
         requires { has_failed self.old ≡ false }
         ensures failed { is_err result ≡ has_failed self.new }
-        ensures flushed { is_flushed self.new ≡ (if has_failed self.new then is_flushed self.old else true) }
+        ensures flushed { is_flushed self.new
+            ≡ (if has_failed self.new then is_flushed self.old else true) }
         ensures out { Keeps (W.contents (writer_of self.old)) (W.contents (writer_of self.new)) }
     {
         self.failed = self.writer.flush().is_err();

@@ -62,8 +62,10 @@ impl Tally {
 
     /// Counts an effect of this kind.
     fn count(&mut self, kind: Kind)
-        requires { (self.old.ops < ENTRIES) × (next_pos (group_of kind) (seen_in self.old) < ENTRIES) }
-        ensures { seen_in self.new ≡ seen_behind (group_of kind) (seen_in self.old).items (seen_in self.old) }
+        requires { (self.old.ops < ENTRIES)
+            × (next_pos (group_of kind) (seen_in self.old) < ENTRIES) }
+        ensures { seen_in self.new
+            ≡ seen_behind (group_of kind) (seen_in self.old).items (seen_in self.old) }
     {
         self.ops += 1;
         match kind {

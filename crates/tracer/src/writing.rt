@@ -72,7 +72,8 @@ fn put_piece<W: Write>(sink: &mut Sink<W>, piece: Piece) -> Result<(), WriteFaul
 fn put_pieces<W: Write>(sink: &mut Sink<W>, pieces: &[Piece]) -> Result<(), WriteFault>
     requires { has_failed sink.old ≡ false }
     ensures failed { is_err result ≡ has_failed sink.new }
-    ensures out { WentOut W.contents sink.old sink.new (flat_map (λ p. spaced (text_of p)) pieces.now) }
+    ensures out { WentOut W.contents sink.old sink.new
+        (flat_map (λ p. spaced (text_of p)) pieces.now) }
 {
     for piece in pieces {
         put_piece(sink, *piece)?;
@@ -84,7 +85,8 @@ fn put_pieces<W: Write>(sink: &mut Sink<W>, pieces: &[Piece]) -> Result<(), Writ
 fn put_messages<W: Write>(sink: &mut Sink<W>, messages: &[Msg]) -> Result<(), WriteFault>
     requires { has_failed sink.old ≡ false }
     ensures failed { is_err result ≡ has_failed sink.new }
-    ensures out { WentOut W.contents sink.old sink.new (flat_map (λ m. spaced (message_text m)) messages.now) }
+    ensures out { WentOut W.contents sink.old sink.new
+        (flat_map (λ m. spaced (message_text m)) messages.now) }
 {
     for message in messages {
         put_message(sink, message)?;
@@ -101,7 +103,8 @@ fn put_line<W: Write>(
 ) -> Result<(), WriteFault>
     requires { has_failed sink.old ≡ false }
     ensures failed { is_err result ≡ has_failed sink.new }
-    ensures out { WentOut W.contents sink.old sink.new (text_line (word.now ∷ (map text_of pieces.now ++ map message_text messages.now))) }
+    ensures out { WentOut W.contents sink.old sink.new
+        (text_line (word.now ∷ (map text_of pieces.now ++ map message_text messages.now))) }
 {
     sink.put(word)?;
     put_pieces(sink, pieces)?;
@@ -122,7 +125,8 @@ fn put_head<W: Write>(sink: &mut Sink<W>, version: Version) -> Result<(), WriteF
 fn put_caps<W: Write>(sink: &mut Sink<W>, caps: &[u8]) -> Result<(), WriteFault>
     requires { has_failed sink.old ≡ false }
     ensures failed { is_err result ≡ has_failed sink.new }
-    ensures out { WentOut W.contents sink.old sink.new (flat_map text_line (numbered cap_pieces 0 caps.now)) }
+    ensures out { WentOut W.contents sink.old sink.new
+        (flat_map text_line (numbered cap_pieces 0 caps.now)) }
 {
     for (b, capacity) in caps.iter().enumerate() {
         let pieces = [Piece::Number(b as u64), Piece::Number(u64::from(*capacity))];
@@ -251,7 +255,8 @@ fn put_entry<W: Write>(sink: &mut Sink<W>, entry: &Entry) -> Result<(), WriteFau
 fn put_entries<W: Write>(sink: &mut Sink<W>, entries: &[&Entry]) -> Result<(), WriteFault>
     requires { has_failed sink.old ≡ false }
     ensures failed { is_err result ≡ has_failed sink.new }
-    ensures out { WentOut W.contents sink.old sink.new (flat_map (λ e. text_line (entry_pieces e.now)) entries.now) }
+    ensures out { WentOut W.contents sink.old sink.new
+        (flat_map (λ e. text_line (entry_pieces e.now)) entries.now) }
 {
     for entry in entries {
         put_entry(sink, *entry)?;
@@ -266,7 +271,8 @@ fn put_left<W: Write>(
 ) -> Result<(), WriteFault>
     requires { has_failed sink.old ≡ false }
     ensures failed { is_err result ≡ has_failed sink.new }
-    ensures out { WentOut W.contents sink.old sink.new (flat_map text_line (numbered (λ b v. left_pieces b v.items) 0 left.now)) }
+    ensures out { WentOut W.contents sink.old sink.new
+        (flat_map text_line (numbered (λ b v. left_pieces b v.items) 0 left.now)) }
 {
     for (b, items) in left.iter().enumerate() {
         put_line(sink, b"left", &[Piece::Number(b as u64)], items)?;
@@ -291,9 +297,11 @@ pub fn write_trace<W: Write>(
     left: &[ArrayVec<Msg, CAPACITY>],
 ) -> Result<(), WriteFault>
     requires live { has_failed sink.old ≡ false }
-    requires spellable { IsSpellable caps.now (entries_in entries.now) (map (λ v. v.items) left.now) }
+    requires spellable { IsSpellable caps.now (entries_in entries.now)
+        (map (λ v. v.items) left.now) }
     ensures failed { is_err result ≡ has_failed sink.new }
-    ensures out { WentOut W.contents sink.old sink.new (spelling caps.now (entries_in entries.now) (map (λ v. v.items) left.now)) }
+    ensures out { WentOut W.contents sink.old sink.new
+        (spelling caps.now (entries_in entries.now) (map (λ v. v.items) left.now)) }
 {
     put_head(sink, version_of(entries))?;
     put_line(sink, b"buffers", &[Piece::Number(caps.len() as u64)], &[])?;

@@ -1,9 +1,12 @@
 -- The objects of the step table: the blocks of the locks, the names of the sections, and what a
 -- section returns.
 use Rattle.std.specs.Prelude.{ℕ, Bool, false, List, [], ◌∷◌, Option, if◌then◌else◌}
-use Rattle.event_log.specs.declared.{ids.Tid.Tid, entries.Kind.{Kind, TheVariants.{Send as SendKind, Recv as RecvKind, Close as CloseKind, SendClosed}}}
-use Rattle.event_log.specs.{declared.entries.Kind.TheVariants.RecvClosed, Messages.Message, Runs.{Group, Sends, Receives, Closes}}
-use Rattle.{thread_blocks.specs.Queues.{is_in, first, rest}, layer_traits.specs.declared.locked.Side.{Side, TheVariants.{Receivers, Senders}}}
+use Rattle.event_log.specs.declared.{ids.Tid.Tid, entries.Kind.{Kind, TheVariants.Send as SendKind}}
+use Rattle.event_log.specs.declared.entries.Kind.TheVariants.{Recv as RecvKind, Close as CloseKind}
+use Rattle.event_log.specs.declared.entries.Kind.TheVariants.{SendClosed, RecvClosed}
+use Rattle.event_log.specs.{Messages.Message, Runs.{Group, Sends, Receives, Closes}}
+use Rattle.thread_blocks.specs.Queues.{is_in, first, rest}
+use Rattle.layer_traits.specs.declared.locked.Side.{Side, TheVariants.{Receivers, Senders}}
 
 -- What the lock of a buffer guards. The busy word names the thread that owns the lock, and the
 -- sleepers wait for it. The waiting threads gave the lock up until they are woken. The two lines

@@ -1,15 +1,26 @@
 -- What a CPU does next, and what a section's result makes of its private state.
-use Rattle.std.specs.Prelude.{ℕ, ◌+◌, Bool, true, false, ◌==◌, List, [], ◌∷◌, ◌++◌, length, Option, Some, None, if◌then◌else◌}
-use Rattle.event_log.specs.declared.{ids.{CpuId.CpuId, Tid.Tid, BufId.BufId, LockId.{LockId, TheVariants.{Pending, Buffer as AtBuffer}}}, entries.Entry.Entry}
-use Rattle.event_log.specs.{History.same_cpu, Messages.{Message, no_message}, Runs.{Group, Sends, Receives, Closes}}
-use Rattle.layer_traits.specs.declared.{locked.Side.{Side, TheVariants.{Receivers, Senders}}, steps.Reason.{Reason, TheVariants.{AllEnded, TraceFull}}}
-use Rattle.layer_traits.specs.declared.call_states.Stage.{Stage, TheVariants.{Idle, Acquires, Enters, Tries, Waits, AcquiresAgain, Signals, SignalsOwn}}
-use Rattle.{layer_traits.specs.declared.call_states.Stage.TheVariants.Releases, guest.specs.declared.instructions.Instruction.{Instruction, TheVariants.Set}}
-use Rattle.guest.specs.{declared.instructions.Instruction.TheVariants.{Add, Sub, Jnz, Send, Recv, Close, Yield as YieldLine, Exit}, State.{State, message_from}}
-use Rattle.{guest.specs.State.{after_local, after_send, after_recv, after_close, after_closed, after_yield}, cpu.specs.Table.Blocks.{Name, AcqQ, Enter, TryPut}}
-use Rattle.cpu.specs.Table.Blocks.{TryTake, Shut, WaitOn, SigRecv, SigSend, RelQ, Pend, TakeAll, side_of_group, kind_for, Reported, Position, Done, WasClosed}
-use Rattle.cpu.specs.Table.{Blocks.{DidShut, NotYet, Drained, Answer}, Setups.{Setup, Call, Private, thread_at, with_thread, home_cpu, stands_at, home_threads}}
-use Rattle.cpu.specs.Table.Setups.{open_calls, have_ended}
+use Rattle.std.specs.Prelude.{ℕ, ◌+◌, Bool, true, false, ◌==◌, List, [], ◌∷◌, ◌++◌, length, Option}
+use Rattle.std.specs.Prelude.{Some, None, if◌then◌else◌}
+use Rattle.event_log.specs.declared.ids.{CpuId.CpuId, Tid.Tid, BufId.BufId, LockId.LockId}
+use Rattle.event_log.specs.declared.ids.LockId.TheVariants.{Pending, Buffer as AtBuffer}
+use Rattle.event_log.specs.{declared.entries.Entry.Entry, History.same_cpu, Messages.Message}
+use Rattle.event_log.specs.{Messages.no_message, Runs.{Group, Sends, Receives, Closes}}
+use Rattle.layer_traits.specs.declared.locked.Side.{Side, TheVariants.{Receivers, Senders}}
+use Rattle.layer_traits.specs.declared.steps.Reason.{Reason, TheVariants.{AllEnded, TraceFull}}
+use Rattle.layer_traits.specs.declared.call_states.Stage.{Stage, TheVariants.{Idle, Acquires}}
+use Rattle.layer_traits.specs.declared.call_states.Stage.TheVariants.{Enters, Tries, Waits}
+use Rattle.layer_traits.specs.declared.call_states.Stage.TheVariants.{AcquiresAgain, Signals}
+use Rattle.layer_traits.specs.declared.call_states.Stage.TheVariants.{SignalsOwn, Releases}
+use Rattle.guest.specs.declared.instructions.Instruction.{Instruction, TheVariants.{Set, Add, Sub}}
+use Rattle.guest.specs.declared.instructions.Instruction.TheVariants.{Jnz, Send, Recv, Close}
+use Rattle.guest.specs.declared.instructions.Instruction.TheVariants.{Yield as YieldLine, Exit}
+use Rattle.guest.specs.State.{State, message_from, after_local, after_send, after_recv, after_close}
+use Rattle.{guest.specs.State.{after_closed, after_yield}, cpu.specs.Table.Blocks.{Name, AcqQ}}
+use Rattle.cpu.specs.Table.Blocks.{Enter, TryPut, TryTake, Shut, WaitOn, SigRecv, SigSend, RelQ}
+use Rattle.cpu.specs.Table.Blocks.{Pend, TakeAll, side_of_group, kind_for, Reported, Position, Done}
+use Rattle.cpu.specs.Table.{Blocks.{WasClosed, DidShut, NotYet, Drained, Answer}, Setups.Setup}
+use Rattle.cpu.specs.Table.Setups.{Call, Private, thread_at, with_thread, home_cpu, stands_at}
+use Rattle.cpu.specs.Table.Setups.{home_threads, open_calls, have_ended}
 
 -- The section that is requested.
 
@@ -87,7 +98,16 @@ pub data Choice : Type 0 where
 
 -- a call that begins
 abbrev pub new_call : Group → BufId → Message → Call
-new_call asks b m = record { asks = asks; buffer = b; message = m; position = 0; effect = None; closed = false; stage = Acquires }
+new_call asks b m =
+    record {
+      asks = asks;
+      buffer = b;
+      message = m;
+      position = 0;
+      effect = None;
+      closed = false;
+      stage = Acquires;
+    }
 
 abbrev pub with_call : Private → Tid → Option Call → Private
 with_call p t call = with_thread p t (record (thread_at p t) { call = call })
@@ -108,15 +128,21 @@ ends p t = record (with_thread p t (record (thread_at p t) { ended = true })) { 
 
 -- the current thread is at an instruction
 abbrev pub at_instruction : Setup → CpuId → Private → Tid → Instruction → Choice
-at_instruction setup c p t (Send b from k) = begin_or_halt setup c p t (new_call Sends b (message_from (thread_at p t).guest from))
-at_instruction setup c p t (Recv b into k) = begin_or_halt setup c p t (new_call Receives b no_message)
+at_instruction setup c p t (Send b from k) =
+    begin_or_halt setup c p t (new_call Sends b (message_from (thread_at p t).guest from))
+at_instruction setup c p t (Recv b into k) =
+    begin_or_halt setup c p t (new_call Receives b no_message)
 at_instruction setup c p t (Close b) = begin_or_halt setup c p t (new_call Closes b no_message)
 at_instruction setup c p t YieldLine = Goes p
 at_instruction setup c p t Exit = Alone (ends p t)
-at_instruction setup c p t (Set r n) = Alone (with_state p t (after_local (Set r n) (thread_at p t).guest))
-at_instruction setup c p t (Add r q) = Alone (with_state p t (after_local (Add r q) (thread_at p t).guest))
-at_instruction setup c p t (Sub r q) = Alone (with_state p t (after_local (Sub r q) (thread_at p t).guest))
-at_instruction setup c p t (Jnz r k) = Alone (with_state p t (after_local (Jnz r k) (thread_at p t).guest))
+at_instruction setup c p t (Set r n) =
+    Alone (with_state p t (after_local (Set r n) (thread_at p t).guest))
+at_instruction setup c p t (Add r q) =
+    Alone (with_state p t (after_local (Add r q) (thread_at p t).guest))
+at_instruction setup c p t (Sub r q) =
+    Alone (with_state p t (after_local (Sub r q) (thread_at p t).guest))
+at_instruction setup c p t (Jnz r k) =
+    Alone (with_state p t (after_local (Jnz r k) (thread_at p t).guest))
 
 -- the current thread continues its call, or its instruction
 abbrev pub at_call : Setup → CpuId → Private → Tid → Option Call → Choice
@@ -135,7 +161,8 @@ at_current setup c p (Some t) = at_call setup c p t (thread_at p t).call
 -- a thread in the hand precedes all else; a CPU of which each thread has ended is halted
 abbrev pub at_hand : Setup → CpuId → Private → Option Tid → Choice
 at_hand setup c p (Some s) = Goes p
-at_hand setup c p None = if have_ended p (home_threads setup c) then Halts AllEnded else at_current setup c p p.current
+at_hand setup c p None =
+    if have_ended p (home_threads setup c) then Halts AllEnded else at_current setup c p p.current
 
 -- what a CPU without a section under way does
 abbrev pub choice : Setup → CpuId → Private → Choice
@@ -145,7 +172,16 @@ choice setup c p = at_hand setup c p p.hand
 
 -- the entry of an effect
 abbrev pub entry_made : CpuId → Tid → Call → ℕ → Message → Entry
-entry_made c t call op m = record { cpu = c; thread = t; kind = kind_for call.asks call.closed; buffer = call.buffer; value = m; op = op; pos = call.position }
+entry_made c t call op m =
+    record {
+      cpu = c;
+      thread = t;
+      kind = kind_for call.asks call.closed;
+      buffer = call.buffer;
+      value = m;
+      op = op;
+      pos = call.position;
+    }
 
 -- the call continues at this stage
 abbrev pub goes_to : Private → Tid → Call → Stage → Private
@@ -154,11 +190,14 @@ goes_to p t call stage = with_call p t (Some (record call { stage = stage }))
 -- the call takes effect, and its entry is written
 abbrev pub effected : CpuId → Private → Tid → Call → ℕ → Private
 effected c p t call op =
-    record (with_call p t (Some (record call { effect = Some op; stage = Signals }))) { trace = p.trace ++ entry_made c t call op call.message ∷ [] }
+    record (with_call p t (Some (record call { effect = Some op; stage = Signals }))) {
+      trace = p.trace ++ entry_made c t call op call.message ∷ [];
+    }
 
 -- the position that the call drew
 abbrev pub recorded_position : Private → Tid → Call → Reported → Private
-recorded_position p t call (Position pos) = with_call p t (Some (record call { position = pos; stage = Tries }))
+recorded_position p t call (Position pos) =
+    with_call p t (Some (record call { position = pos; stage = Tries }))
 recorded_position p t call _ = p
 
 -- that the buffer is closed, which is the effect of a close
@@ -200,7 +239,9 @@ slept_if true p = record p { current = None }
 -- a woken thread is ready if this is its home CPU; otherwise it is in the hand
 abbrev pub woken : Setup → CpuId → Option Tid → Private → Private
 woken setup c None p = p
-woken setup c (Some s) p = if same_cpu (home_cpu setup s) c then record p { ready = p.ready ++ s ∷ [] } else record p { hand = Some s }
+woken setup c (Some s) p =
+    if same_cpu (home_cpu setup s) c then record p { ready = p.ready ++ s ∷ [] }
+    else record p { hand = Some s }
 
 -- the thread's state after its call has returned, by what it asked for
 abbrev pub guest_served : Group → Instruction → Message → State → State
@@ -210,12 +251,18 @@ guest_served Closes line m guest = after_close line guest
 
 -- a call that found its buffer closed continues at its target
 abbrev pub guest_after : Group → Bool → Instruction → Message → State → State
-guest_after asks closed line m guest = if closed then after_closed line guest else guest_served asks line m guest
+guest_after asks closed line m guest =
+    if closed then after_closed line guest else guest_served asks line m guest
 
 -- the call has returned
 abbrev pub returned : Setup → Private → Tid → Call → Private
 returned setup p t call =
-    with_thread p t (record (thread_at p t) { guest = guest_after call.asks call.closed (stands_at setup p t) call.message (thread_at p t).guest; call = None })
+    with_thread p t (record
+    (thread_at p t) {
+      guest = guest_after call.asks call.closed (stands_at setup p t)
+          call.message (thread_at p t).guest;
+      call = None;
+    })
 
 abbrev pub returned_at : Setup → Private → Tid → Call → Stage → Private
 returned_at setup p t call Idle = returned setup p t call
@@ -240,12 +287,16 @@ drained _ = []
 
 -- after a section of a call
 abbrev pub after_call : Setup → CpuId → Private → Tid → Call → Answer → Private
-after_call setup c p t call a = settled setup (woken setup c a.woke (slept_if a.slept (with_told c p t call call.stage a.told)))
+after_call setup c p t call a =
+    settled setup (woken setup c a.woke (slept_if a.slept (with_told c p t call call.stage a.told)))
 
 -- after a yield: the pending threads are ready, then the thread that yielded; no thread runs
 abbrev pub after_yielding : Setup → Private → Tid → Answer → Private
 after_yielding setup p t a =
-    record (with_state p t (after_yield (stands_at setup p t) (thread_at p t).guest)) { current = None; ready = (p.ready ++ drained a.told) ++ t ∷ [] }
+    record (with_state p t (after_yield (stands_at setup p t) (thread_at p t).guest)) {
+      current = None;
+      ready = (p.ready ++ drained a.told) ++ t ∷ [];
+    }
 
 -- after a drain: the pending threads are ready
 abbrev pub after_drain : Private → Answer → Private

@@ -1,10 +1,16 @@
 -- What each section makes of the block that it finds, and its result.
-use Rattle.std.specs.Prelude.{ℕ, Bool, true, false, ◌&&◌, ◌||◌, nat_lt, List, [], ◌∷◌, ◌++◌, length, Option, Some, None, if◌then◌else◌}
-use Rattle.{event_log.specs.{declared.ids.Tid.Tid, Messages.Message}, thread_blocks.specs.Queues.without, layer_traits.specs.declared.locked.Side.Side}
-use Rattle.layer_traits.specs.{declared.locked.Side.TheVariants.{Receivers, Senders}, Polling.Plans.Table, Layers.Sleeping.joined, Blocks.BufferBlocks.may_join}
-use Rattle.{layer_traits.specs.Blocks.BufferBlocks.{is_first, counted, items_put, other_items}, cpu.specs.Table.Blocks.{Buffer, Block, OfBuffer, OfPending}}
-use Rattle.cpu.specs.Table.Blocks.{Name, AcqQ, Enter, TryPut, TryTake, Shut, WaitOn, SigRecv, SigSend, RelQ, Pend, TakeAll, Reported, Nothing, Position, Done}
-use Rattle.cpu.specs.Table.Blocks.{WasClosed, DidShut, NotYet, Drained, Answer, front, behind, front_stands_in}
+use Rattle.std.specs.Prelude.{ℕ, Bool, true, false, ◌&&◌, ◌||◌, nat_lt, List, [], ◌∷◌, ◌++◌, length}
+use Rattle.std.specs.Prelude.{Option, Some, None, if◌then◌else◌}
+use Rattle.event_log.specs.{declared.ids.Tid.Tid, Messages.Message}
+use Rattle.{thread_blocks.specs.Queues.without, layer_traits.specs.declared.locked.Side.Side}
+use Rattle.layer_traits.specs.declared.locked.Side.TheVariants.{Receivers, Senders}
+use Rattle.layer_traits.specs.{Polling.Plans.Table, Layers.Sleeping.joined}
+use Rattle.layer_traits.specs.Blocks.BufferBlocks.{may_join, is_first, counted, items_put}
+use Rattle.{layer_traits.specs.Blocks.BufferBlocks.other_items, cpu.specs.Table.Blocks.Buffer}
+use Rattle.cpu.specs.Table.Blocks.{Block, OfBuffer, OfPending, Name, AcqQ, Enter, TryPut, TryTake}
+use Rattle.cpu.specs.Table.Blocks.{Shut, WaitOn, SigRecv, SigSend, RelQ, Pend, TakeAll, Reported}
+use Rattle.cpu.specs.Table.Blocks.{Nothing, Position, Done, WasClosed, DidShut, NotYet, Drained}
+use Rattle.cpu.specs.Table.Blocks.{Answer, front, behind, front_stands_in}
 
 -- there is room for one item more
 abbrev pub has_room : Buffer → Bool
@@ -54,8 +60,13 @@ acquired t (Some owner) k = record k { sleepers = joined t k.sleepers }
 
 -- t enters a line at its end, and its position is drawn
 abbrev pub lined_up : Tid → Side → Buffer → Buffer
-lined_up t Senders k = record k { send_line = k.send_line ++ t ∷ []; send_positions = counted k.send_positions }
-lined_up t Receivers k = record k { receive_line = k.receive_line ++ t ∷ []; receive_positions = counted k.receive_positions }
+lined_up t Senders k =
+    record k { send_line = k.send_line ++ t ∷ []; send_positions = counted k.send_positions }
+lined_up t Receivers k =
+    record k {
+      receive_line = k.receive_line ++ t ∷ [];
+      receive_positions = counted k.receive_positions;
+    }
 
 -- the position that is drawn next in a line
 abbrev pub drawn_position : Side → Buffer → ℕ
@@ -64,11 +75,21 @@ drawn_position side k = on_side side k.receive_positions k.send_positions
 -- the first of the send line has appended its message to the items, unless the buffer is closed,
 -- and left the line
 abbrev pub put : Message → Buffer → Buffer
-put m k = record k { items = items_put k.closed m k.items; send_line = behind k.send_line; effects = counted k.effects }
+put m k =
+    record k {
+      items = items_put k.closed m k.items;
+      send_line = behind k.send_line;
+      effects = counted k.effects;
+    }
 
 -- the first of the receive line has taken the first item, if there is one, and left the line
 abbrev pub taken : Buffer → Buffer
-taken k = record k { items = other_items k.items; receive_line = behind k.receive_line; effects = counted k.effects }
+taken k =
+    record k {
+      items = other_items k.items;
+      receive_line = behind k.receive_line;
+      effects = counted k.effects;
+    }
 
 -- the buffer is closed; its items stay
 abbrev pub shut_off : Buffer → Buffer
@@ -81,8 +102,10 @@ waiting t Receivers k = record k { waiting_receivers = joined t k.waiting_receiv
 
 -- the thread that a signal to a side woke no longer waits
 abbrev pub signal_sent : Side → Buffer → Buffer
-signal_sent Senders k = record k { waiting_senders = without_any (due_on Senders k) k.waiting_senders }
-signal_sent Receivers k = record k { waiting_receivers = without_any (due_on Receivers k) k.waiting_receivers }
+signal_sent Senders k =
+    record k { waiting_senders = without_any (due_on Senders k) k.waiting_senders }
+signal_sent Receivers k =
+    record k { waiting_receivers = without_any (due_on Receivers k) k.waiting_receivers }
 
 -- the lock passes to its first sleeper, or no thread owns it
 abbrev pub released : Buffer → Buffer
@@ -143,8 +166,10 @@ report_of_take (m ∷ items) op = Done op m
 abbrev pub answer_of_buffer : Name → Buffer → Answer
 answer_of_buffer (AcqQ t) k = answer_of_acquire k.busy
 answer_of_buffer (Enter t side) k = reports (Position (drawn_position side k))
-answer_of_buffer (TryPut t m) k = reports (if may_try Senders t k then report_of_put k.closed k.effects m else NotYet)
-answer_of_buffer (TryTake t) k = reports (if may_try Receivers t k then report_of_take k.items k.effects else NotYet)
+answer_of_buffer (TryPut t m) k =
+    reports (if may_try Senders t k then report_of_put k.closed k.effects m else NotYet)
+answer_of_buffer (TryTake t) k =
+    reports (if may_try Receivers t k then report_of_take k.items k.effects else NotYet)
 answer_of_buffer (Shut t) k = reports (DidShut k.effects k.closes)
 answer_of_buffer (WaitOn t side) k = sleeps (front k.sleepers)
 answer_of_buffer (SigRecv t) k = wakes (due_on Receivers k)

@@ -1,8 +1,12 @@
 -- A machine's setup, a CPU's private state, the state at boot and the opening blocks.
-use Rattle.std.specs.Prelude.{ℕ, ◌+◌, Bool, true, false, ◌&&◌, List, [], ◌∷◌, map, Option, Some, None, slice_get, slice_index_or, slice_set, if◌then◌else◌}
-use Rattle.event_log.specs.declared.{ids.{CpuId.CpuId, Tid.Tid, BufId.BufId, LockId.{LockId, TheVariants.{Pending, Buffer as AtBuffer}}}, entries.Entry.Entry}
-use Rattle.{event_log.specs.{History.same_cpu, Messages.Message, Runs.Group}, guest.specs.{declared.instructions.Instruction.Instruction, State.State}}
-use Rattle.{guest.specs.State.{at_start, next_of}, cpu.specs.Table.Blocks.{Buffer, Block, OfBuffer, OfPending}}
+use Rattle.std.specs.Prelude.{ℕ, ◌+◌, Bool, true, false, ◌&&◌, List, [], ◌∷◌, map, Option, Some}
+use Rattle.std.specs.Prelude.{None, slice_get, slice_index_or, slice_set, if◌then◌else◌}
+use Rattle.event_log.specs.declared.ids.{CpuId.CpuId, Tid.Tid, BufId.BufId, LockId.LockId}
+use Rattle.event_log.specs.declared.ids.LockId.TheVariants.{Pending, Buffer as AtBuffer}
+use Rattle.event_log.specs.{declared.entries.Entry.Entry, History.same_cpu, Messages.Message}
+use Rattle.{event_log.specs.Runs.Group, guest.specs.declared.instructions.Instruction.Instruction}
+use Rattle.{guest.specs.State.{State, at_start, next_of}, cpu.specs.Table.Blocks.{Buffer, Block}}
+use Rattle.cpu.specs.Table.Blocks.{OfBuffer, OfPending}
 use Rattle.layer_traits.specs.{declared.call_states.Stage.Stage, Threads.Passes.or_else}
 
 -- the number of CPUs, the home CPU of each thread, its program, the capacity of each buffer, and
@@ -76,7 +80,8 @@ stands_at setup p t = next_of (program_of setup t) (thread_at p t).guest
 abbrev pub home_threads_from : CpuId → List CpuId → ℕ → List Tid
 home_threads_from c [] i = []
 home_threads_from c (home ∷ homes) i =
-    if same_cpu home c then record { 0 = i } ∷ home_threads_from c homes (i + 1) else home_threads_from c homes (i + 1)
+    if same_cpu home c then record { 0 = i } ∷ home_threads_from c homes (i + 1)
+    else home_threads_from c homes (i + 1)
 
 -- the threads whose home CPU is c, by rising number
 abbrev pub home_threads : Setup → CpuId → List Tid
@@ -84,7 +89,14 @@ home_threads setup c = home_threads_from c setup.homes 0
 
 -- a CPU at boot: its home threads are ready, and nothing has happened
 abbrev pub boot_of : Setup → CpuId → Private
-boot_of setup c = record { current = None; ready = home_threads setup c; hand = None; threads = map (λ home. new_thread) setup.homes; trace = [] }
+boot_of setup c =
+    record {
+      current = None;
+      ready = home_threads setup c;
+      hand = None;
+      threads = map (λ home. new_thread) setup.homes;
+      trace = [];
+    }
 
 -- a buffer at boot
 abbrev pub buffer_at_boot : ℕ → Buffer
@@ -126,7 +138,8 @@ is_open_call (Some call) = has_none call.effect
 -- how many of these threads are inside a call that has not taken effect
 abbrev pub open_calls : Private → List Tid → ℕ
 open_calls p [] = 0
-open_calls p (t ∷ ts) = if is_open_call (thread_at p t).call then open_calls p ts + 1 else open_calls p ts
+open_calls p (t ∷ ts) =
+    if is_open_call (thread_at p t).call then open_calls p ts + 1 else open_calls p ts
 
 -- whether all of these threads have ended
 abbrev pub have_ended : Private → List Tid → Bool

@@ -1,9 +1,14 @@
 -- One step of a CPU, one step of a system, and the states that a system reaches.
-use Rattle.std.specs.Prelude.{ℕ, ◌+◌, ◌<◌, zero, suc, Bool, true, false, ◌==◌, List, [], ◌∷◌, ◌++◌, Option, Some, None, slice_get, slice_set}
-use Rattle.event_log.specs.{declared.ids.{CpuId.CpuId, LockId.LockId}, Actions.{Action, phase, next_action}, Sections.{block_after, sections_in}}
-use Rattle.layer_traits.specs.{declared.steps.{Reason.{Reason, TheVariants.StepsUsed}, Step.{Step, TheVariants.{Stepped, Halted}}}, Polling.Plans.reply}
-use Rattle.{layer_traits.specs.Polling.{Plans.is_in_section, Along.{Outcome, Along}}, cpu.specs.Table.{Blocks.{Block, Name, Answer}, Edits.table_kernel}}
-use Rattle.cpu.specs.Table.{Setups.{Setup, Private, boot_of, opening}, Choice.{asked, Choice, Halts, Alone, Goes, choice, after_section}}
+use Rattle.std.specs.Prelude.{ℕ, ◌+◌, ◌<◌, zero, suc, Bool, true, false, ◌==◌, List, [], ◌∷◌, ◌++◌}
+use Rattle.std.specs.Prelude.{Option, Some, None, slice_get, slice_set}
+use Rattle.event_log.specs.{declared.ids.{CpuId.CpuId, LockId.LockId}, Actions.{Action, phase}}
+use Rattle.event_log.specs.{Actions.next_action, Sections.{block_after, sections_in}}
+use Rattle.layer_traits.specs.declared.steps.{Reason.{Reason, TheVariants.StepsUsed}, Step.Step}
+use Rattle.layer_traits.specs.declared.steps.Step.TheVariants.{Stepped, Halted}
+use Rattle.layer_traits.specs.Polling.{Plans.{reply, is_in_section}, Along.{Outcome, Along}}
+use Rattle.cpu.specs.Table.{Blocks.{Block, Name, Answer}, Edits.table_kernel, Setups.Setup}
+use Rattle.cpu.specs.Table.{Setups.{Private, boot_of, opening}, Choice.{asked, Choice, Halts}}
+use Rattle.cpu.specs.Table.Choice.{Alone, Goes, choice, after_section}
 
 -- A CPU's step.
 
@@ -13,7 +18,8 @@ after_reply setup c p None = p
 after_reply setup c p (Some a) = after_section setup c p a
 
 -- the next action of the section at this lock
-abbrev pub acting_on : Setup → CpuId → Private → LockId → Name → List (Action Name) → Outcome Private Name
+abbrev pub acting_on : Setup → CpuId → Private → LockId → Name → List (Action Name)
+    → Outcome Private Name
 acting_on setup c p lock name past = record {
   next = after_reply setup c p (reply table_kernel (opening setup) c lock name past);
   acts = next_action c lock name past ∷ [];
@@ -24,7 +30,8 @@ abbrev pub acting : Setup → CpuId → Private → List (Action Name) → Outco
 acting setup c p past = acting_on setup c p (asked setup c p).lock (asked setup c p).name past
 
 -- the step that was chosen
-abbrev pub chosen_step : Setup → CpuId → Private → Choice → List (Action Name) → Outcome Private Name
+abbrev pub chosen_step : Setup → CpuId → Private → Choice → List (Action Name)
+    → Outcome Private Name
 chosen_step setup c p (Halts reason) past = record { next = p; acts = []; answer = Halted reason }
 chosen_step setup c p (Alone q) past = record { next = q; acts = []; answer = Stepped }
 chosen_step setup c p (Goes q) past = acting setup c q past
@@ -71,11 +78,18 @@ boots_from setup n (suc k) = boot_of setup (cpu_numbered n) ∷ boots_from setup
 
 -- a system at boot
 abbrev pub whole_at_boot : Setup → ℕ → Whole
-whole_at_boot setup room = record { cpus = boots_from setup 0 setup.cpus; log = []; room = room; taken = 0 }
+whole_at_boot setup room =
+    record { cpus = boots_from setup 0 setup.cpus; log = []; room = room; taken = 0 }
 
 -- a system after a step of CPU c
 abbrev pub whole_after : CpuId → Whole → Outcome Private Name → Whole
-whole_after c s o = record { cpus = slice_set s.cpus c.0 o.next; log = o.acts ++ s.log; room = s.room; taken = s.taken + 1 }
+whole_after c s o =
+    record {
+      cpus = slice_set s.cpus c.0 o.next;
+      log = o.acts ++ s.log;
+      room = s.room;
+      taken = s.taken + 1;
+    }
 
 -- what a step of a system leaves and returns
 pub record Stepping : Type 0 where
@@ -111,7 +125,8 @@ steps_by setup c (suc n) s = steps_by setup c n (system_step setup c s).next
 -- the states that a system reaches from boot, under every schedule
 pub data IsReached (setup : Setup) (room : ℕ) : Whole → Type 0 where
   boots : IsReached setup room (whole_at_boot setup room)
-  steps_once : {s : Whole} (c : CpuId) → IsReached setup room s → c.0 < setup.cpus → IsReached setup room (system_step setup c s).next
+  steps_once : {s : Whole} (c : CpuId) → IsReached setup room s → c.0 < setup.cpus
+      → IsReached setup room (system_step setup c s).next
 
 -- the steps of CPU c along a list of actions, according to the table
 abbrev pub AlongTable : Setup → CpuId → ℕ → Private → List (Action Name) → Type 0

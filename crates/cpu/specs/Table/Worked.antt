@@ -1,12 +1,21 @@
 -- Worked runs of small systems, each from boot under a schedule, and what they leave. Each is a
 -- fact by computation.
-use Rattle.std.specs.Prelude.{◌≡◌, ℕ, true, false, List, [], ◌∷◌, map, Bool, Option, Some, None, slice_get}
-use Rattle.event_log.specs.declared.{ids.{Tid.Tid, BufId.BufId, LockId.TheVariants.{Pending, Buffer as AtBuffer}}, entries.Kind.Kind}
-use Rattle.event_log.specs.{declared.entries.{Kind.TheVariants.{Send as SendKind, Recv as RecvKind}, Entry.Entry}, Messages.Message, Actions.{takes, gives}}
-use Rattle.{event_log.specs.Actions.{phase, Waits}, layer_traits.specs.declared.steps.Reason.{Reason, TheVariants.{AllEnded, TraceFull}}}
-use Rattle.guest.specs.declared.instructions.Instruction.{Instruction, TheVariants.{Set, Add, Send, Recv, Yield as YieldLine, Exit}}
-use Rattle.guest.specs.declared.instructions.{Into.TheVariants.One as ToOne, Register.{Register, TheVariants.{Reg0, Reg1}}, Source.TheVariants.One as OfOne}
-use Rattle.cpu.specs.Table.{Blocks.{Block, OfBuffer, OfPending}, Setups.{Setup, Call, Private, thread_at}, Steps.{Whole, cpu_numbered, whole_at_boot, steps_by}}
+use Rattle.std.specs.Prelude.{◌≡◌, ℕ, true, false, List, [], ◌∷◌, map, Bool, Option, Some, None}
+use Rattle.std.specs.Prelude.{slice_get}
+use Rattle.event_log.specs.declared.ids.{Tid.Tid, BufId.BufId, LockId.TheVariants.Pending}
+use Rattle.event_log.specs.declared.{ids.LockId.TheVariants.Buffer as AtBuffer, entries.Kind.Kind}
+use Rattle.event_log.specs.declared.entries.Kind.TheVariants.{Send as SendKind, Recv as RecvKind}
+use Rattle.event_log.specs.{declared.entries.Entry.Entry, Messages.Message, Actions.{takes, gives}}
+use Rattle.{event_log.specs.Actions.{phase, Waits}, layer_traits.specs.declared.steps.Reason.Reason}
+use Rattle.layer_traits.specs.declared.steps.Reason.TheVariants.{AllEnded, TraceFull}
+use Rattle.guest.specs.declared.instructions.Instruction.{Instruction, TheVariants.{Set, Add, Send}}
+use Rattle.guest.specs.declared.instructions.Instruction.TheVariants.{Recv, Yield as YieldLine}
+use Rattle.guest.specs.declared.instructions.Instruction.TheVariants.{Exit}
+use Rattle.guest.specs.declared.instructions.{Into.TheVariants.One as ToOne, Register.Register}
+use Rattle.guest.specs.declared.instructions.Register.TheVariants.{Reg0, Reg1}
+use Rattle.guest.specs.declared.instructions.Source.TheVariants.{One as OfOne}
+use Rattle.cpu.specs.Table.{Blocks.{Block, OfBuffer, OfPending}, Setups.{Setup, Call, Private}}
+use Rattle.cpu.specs.Table.{Setups.thread_at, Steps.{Whole, cpu_numbered, whole_at_boot, steps_by}}
 use Rattle.cpu.specs.Table.Steps.{block_at, halted_at}
 
 abbrev pub thread : ℕ → Tid
@@ -26,7 +35,8 @@ of cpu count = record { cpu = cpu; count = count }
 -- a system after a schedule
 abbrev pub after_bursts : Setup → List Burst → Whole → Whole
 after_bursts setup [] s = s
-after_bursts setup (burst ∷ more) s = after_bursts setup more (steps_by setup (cpu_numbered burst.cpu) burst.count s)
+after_bursts setup (burst ∷ more) s =
+    after_bursts setup more (steps_by setup (cpu_numbered burst.cpu) burst.count s)
 
 -- the same from boot, with room for 1000 steps
 abbrev pub reached : Setup → List Burst → Whole
@@ -98,25 +108,60 @@ at_buffer_0 setup s = parts_in (buffer_block_of setup 0 s)
 
 -- buffer 0 with these items, for which no thread waits
 abbrev pub leaves : List Message → Option Parts
-leaves items = Some (record { busy = None; sleepers = []; waiting_receivers = []; waiting_senders = []; items = items })
+leaves items =
+    Some (record {
+      busy = None;
+      sleepers = [];
+      waiting_receivers = [];
+      waiting_senders = [];
+      items = items;
+    })
 
 -- the same with a receiver, or a sender, that waits
 abbrev pub receiver_waits : ℕ → List Message → Option Parts
-receiver_waits t items = Some (record { busy = None; sleepers = []; waiting_receivers = thread t ∷ []; waiting_senders = []; items = items })
+receiver_waits t items =
+    Some (record {
+      busy = None;
+      sleepers = [];
+      waiting_receivers = thread t ∷ [];
+      waiting_senders = [];
+      items = items;
+    })
 
 abbrev pub sender_waits : ℕ → List Message → Option Parts
-sender_waits t items = Some (record { busy = None; sleepers = []; waiting_receivers = []; waiting_senders = thread t ∷ []; items = items })
+sender_waits t items =
+    Some (record {
+      busy = None;
+      sleepers = [];
+      waiting_receivers = [];
+      waiting_senders = thread t ∷ [];
+      items = items;
+    })
 
 abbrev pub as_entry : ℕ → ℕ → Kind → ℕ → Message → ℕ → ℕ → Entry
 as_entry cpu t kind b m op pos =
-    record { cpu = cpu_numbered cpu; thread = thread t; kind = kind; buffer = buffer_numbered b; value = m; op = op; pos = pos }
+    record {
+      cpu = cpu_numbered cpu;
+      thread = thread t;
+      kind = kind;
+      buffer = buffer_numbered b;
+      value = m;
+      op = op;
+      pos = pos;
+    }
 
 -- Setups.
 
 -- the home CPU of each thread by number, its program, the capacities and the room of a trace
 abbrev pub setup_of : ℕ → List ℕ → List (List Instruction) → List ℕ → ℕ → Setup
 setup_of cpus homes programs caps trace_room =
-    record { cpus = cpus; homes = map (λ n. cpu_numbered n) homes; programs = programs; caps = caps; trace_room = trace_room }
+    record {
+      cpus = cpus;
+      homes = map (λ n. cpu_numbered n) homes;
+      programs = programs;
+      caps = caps;
+      trace_room = trace_room;
+    }
 
 -- a send of a register to buffer 0, and a receive from it to a register, without a target
 abbrev pub send_from : Register → Instruction
@@ -153,11 +198,13 @@ two_cpus = setup_of 2 (0 ∷ 1 ∷ []) (receives_one ∷ sends_one 7 ∷ []) (1 
 
 -- receivers on CPUs 0 and 1, and on CPU 2 a thread that sends twice
 abbrev pub two_receivers : Setup
-two_receivers = setup_of 3 (0 ∷ 1 ∷ 2 ∷ []) (receives_one ∷ receives_one ∷ sends_two 7 8 ∷ []) (2 ∷ []) 4
+two_receivers =
+    setup_of 3 (0 ∷ 1 ∷ 2 ∷ []) (receives_one ∷ receives_one ∷ sends_two 7 8 ∷ []) (2 ∷ []) 4
 
 -- three senders on three CPUs
 abbrev pub three_senders : Setup
-three_senders = setup_of 3 (0 ∷ 1 ∷ 2 ∷ []) (sends_one 1 ∷ sends_one 2 ∷ sends_one 3 ∷ []) (4 ∷ []) 4
+three_senders =
+    setup_of 3 (0 ∷ 1 ∷ 2 ∷ []) (sends_one 1 ∷ sends_one 2 ∷ sends_one 3 ∷ []) (4 ∷ []) 4
 
 -- one thread that sends twice, on a CPU whose trace has room for one entry
 abbrev pub short_trace : Setup
@@ -166,11 +213,13 @@ short_trace = setup_of 1 (0 ∷ []) (sends_twice 7 ∷ []) (32 ∷ []) 1
 -- one thread that sends a sum which wraps round to 0
 abbrev pub wrapping_sum : Setup
 wrapping_sum = setup_of 1 (0 ∷ [])
-    ((Set Reg0 18446744073709551615 ∷ Set Reg1 1 ∷ Add Reg0 Reg1 ∷ send_from Reg0 ∷ Exit ∷ []) ∷ []) (1 ∷ []) 4
+    ((Set Reg0 18446744073709551615 ∷ Set Reg1 1 ∷ Add Reg0 Reg1 ∷ send_from Reg0 ∷ Exit ∷ []) ∷ [])
+    (1 ∷ []) 4
 
 -- receivers on CPUs 0 and 2, and a sender on CPU 1
 abbrev pub receivers_apart : Setup
-receivers_apart = setup_of 3 (0 ∷ 1 ∷ 2 ∷ []) (receives_one ∷ sends_one 7 ∷ receives_one ∷ []) (2 ∷ []) 4
+receivers_apart =
+    setup_of 3 (0 ∷ 1 ∷ 2 ∷ []) (receives_one ∷ sends_one 7 ∷ receives_one ∷ []) (2 ∷ []) 4
 
 -- a receiver and a sender on one CPU
 abbrev pub one_cpu : Setup
@@ -185,64 +234,99 @@ a_yield = setup_of 1 (0 ∷ 0 ∷ []) ((YieldLine ∷ []) ∷ (Exit ∷ []) ∷ 
 -- one thread on one CPU
 pub record AloneRuns : Type 0 where
   -- no step: the thread is ready
-  pub at_boot : (readies (reached one_sender []) ≡ (thread 0 ∷ []) ∷ []) × (at_buffer_0 one_sender (reached one_sender []) ≡ leaves [])
+  pub at_boot : (readies (reached one_sender []) ≡ (thread 0 ∷ []) ∷ [])
+      × (at_buffer_0 one_sender (reached one_sender []) ≡ leaves [])
   -- the effect is in the 9th step of the call, and the call returns in its 18th
-  pub before_effect : (traces (reached one_sender (of 0 10 ∷ [])) ≡ [] ∷ []) × (currents (reached one_sender (of 0 10 ∷ [])) ≡ Some (thread 0) ∷ [])
-  pub effect : (traces (reached one_sender (of 0 11 ∷ [])) ≡ (as_entry 0 0 SendKind 0 (7 ∷ []) 0 0 ∷ []) ∷ [])
+  pub before_effect : (traces (reached one_sender (of 0 10 ∷ [])) ≡ [] ∷ [])
+      × (currents (reached one_sender (of 0 10 ∷ [])) ≡ Some (thread 0) ∷ [])
+  pub effect : (traces (reached one_sender (of 0 11 ∷ []))
+      ≡ (as_entry 0 0 SendKind 0 (7 ∷ []) 0 0 ∷ []) ∷ [])
       × (parts_in (buffer_block_of one_sender 0 (reached one_sender (of 0 11 ∷ [])))
-      ≡ Some (record { busy = Some (thread 0); sleepers = []; waiting_receivers = []; waiting_senders = []; items = (7 ∷ []) ∷ [] }))
-  pub sent : (traces (reached one_sender (of 0 21 ∷ [])) ≡ (as_entry 0 0 SendKind 0 (7 ∷ []) 0 0 ∷ []) ∷ [])
+      ≡ Some (record {
+        busy = Some (thread 0);
+        sleepers = [];
+        waiting_receivers = [];
+        waiting_senders = [];
+        items = (7 ∷ []) ∷ [];
+      }))
+  pub sent : (traces (reached one_sender (of 0 21 ∷ []))
+      ≡ (as_entry 0 0 SendKind 0 (7 ∷ []) 0 0 ∷ []) ∷ [])
       × (at_buffer_0 one_sender (reached one_sender (of 0 21 ∷ [])) ≡ leaves ((7 ∷ []) ∷ []))
-      × (endings (reached one_sender (of 0 21 ∷ [])) ≡ (true ∷ []) ∷ []) × (reason one_sender 0 (reached one_sender (of 0 21 ∷ [])) ≡ Some AllEnded)
+      × (endings (reached one_sender (of 0 21 ∷ [])) ≡ (true ∷ []) ∷ [])
+      × (reason one_sender 0 (reached one_sender (of 0 21 ∷ [])) ≡ Some AllEnded)
   -- the second send into a full buffer waits
-  pub waits : (traces (reached two_sends (of 0 32 ∷ [])) ≡ (as_entry 0 0 SendKind 0 (7 ∷ []) 0 0 ∷ []) ∷ [])
+  pub waits : (traces (reached two_sends (of 0 32 ∷ []))
+      ≡ (as_entry 0 0 SendKind 0 (7 ∷ []) 0 0 ∷ []) ∷ [])
       × (at_buffer_0 two_sends (reached two_sends (of 0 32 ∷ [])) ≡ sender_waits 0 ((7 ∷ []) ∷ []))
-      × (currents (reached two_sends (of 0 32 ∷ [])) ≡ None ∷ []) × (reason two_sends 0 (reached two_sends (of 0 32 ∷ [])) ≡ None)
+      × (currents (reached two_sends (of 0 32 ∷ [])) ≡ None ∷ [])
+      × (reason two_sends 0 (reached two_sends (of 0 32 ∷ [])) ≡ None)
   -- a full trace halts the CPU before the second send begins: 20 steps were taken
-  pub full_trace : (traces (reached short_trace (of 0 30 ∷ [])) ≡ (as_entry 0 0 SendKind 0 (7 ∷ []) 0 0 ∷ []) ∷ [])
-      × (at_buffer_0 short_trace (reached short_trace (of 0 30 ∷ [])) ≡ leaves ((7 ∷ []) ∷ [])) × ((reached short_trace (of 0 30 ∷ [])).taken ≡ 20)
-      × (currents (reached short_trace (of 0 30 ∷ [])) ≡ Some (thread 0) ∷ []) × (reason short_trace 0 (reached short_trace (of 0 30 ∷ [])) ≡ Some TraceFull)
+  pub full_trace : (traces (reached short_trace (of 0 30 ∷ []))
+      ≡ (as_entry 0 0 SendKind 0 (7 ∷ []) 0 0 ∷ []) ∷ [])
+      × (at_buffer_0 short_trace (reached short_trace (of 0 30 ∷ [])) ≡ leaves ((7 ∷ []) ∷ []))
+      × ((reached short_trace (of 0 30 ∷ [])).taken ≡ 20)
+      × (currents (reached short_trace (of 0 30 ∷ [])) ≡ Some (thread 0) ∷ [])
+      × (reason short_trace 0 (reached short_trace (of 0 30 ∷ [])) ≡ Some TraceFull)
   -- a sum of 64 bits wraps round
-  pub wraps : (traces (reached wrapping_sum (of 0 23 ∷ [])) ≡ (as_entry 0 0 SendKind 0 (0 ∷ []) 0 0 ∷ []) ∷ [])
+  pub wraps : (traces (reached wrapping_sum (of 0 23 ∷ []))
+      ≡ (as_entry 0 0 SendKind 0 (0 ∷ []) 0 0 ∷ []) ∷ [])
       × (at_buffer_0 wrapping_sum (reached wrapping_sum (of 0 23 ∷ [])) ≡ leaves ((0 ∷ []) ∷ []))
       × (endings (reached wrapping_sum (of 0 23 ∷ [])) ≡ (true ∷ []) ∷ [])
   -- a thread that yields is queued after those that are ready
-  pub yields : (readies (reached a_yield (of 0 4 ∷ [])) ≡ (thread 1 ∷ thread 0 ∷ []) ∷ []) × (endings (reached a_yield (of 0 8 ∷ [])) ≡ (true ∷ true ∷ []) ∷ [])
+  pub yields : (readies (reached a_yield (of 0 4 ∷ [])) ≡ (thread 1 ∷ thread 0 ∷ []) ∷ [])
+      × (endings (reached a_yield (of 0 8 ∷ [])) ≡ (true ∷ true ∷ []) ∷ [])
 
 -- a receiver and a sender, whose home CPUs are two
 pub record RunsOfTwo : Type 0 where
   -- the receiver has given up the lock and waits; CPU 0 then takes the pending threads again and
   -- again, and finds none
-  pub idles : (at_buffer_0 two_cpus (reached two_cpus (of 0 19 ∷ [])) ≡ receiver_waits 0 []) × ((reached two_cpus (of 0 19 ∷ [])).taken ≡ 19)
+  pub idles : (at_buffer_0 two_cpus (reached two_cpus (of 0 19 ∷ [])) ≡ receiver_waits 0 [])
+      × ((reached two_cpus (of 0 19 ∷ [])).taken ≡ 19)
       × (takes (Pending (cpu_numbered 0)) (reached two_cpus (of 0 19 ∷ [])).log ≡ 2)
       × (gives (Pending (cpu_numbered 0)) (reached two_cpus (of 0 19 ∷ [])).log ≡ 2)
       × (readies (reached two_cpus (of 0 19 ∷ [])) ≡ [] ∷ (thread 1 ∷ []) ∷ [])
   -- a failed poll changes nothing
-  pub misses : (phase (cpu_numbered 1) (reached two_cpus (of 0 2 ∷ of 1 40 ∷ [])).log ≡ Waits (AtBuffer (buffer_numbered 0)))
-      × (currents (reached two_cpus (of 0 2 ∷ of 1 40 ∷ [])) ≡ Some (thread 0) ∷ Some (thread 1) ∷ [])
+  pub misses : (phase (cpu_numbered 1) (reached two_cpus (of 0 2 ∷ of 1 40 ∷ [])).log
+      ≡ Waits (AtBuffer (buffer_numbered 0)))
+      × (currents (reached two_cpus (of 0 2 ∷ of 1 40 ∷ []))
+      ≡ Some (thread 0) ∷ Some (thread 1) ∷ [])
       × (traces (reached two_cpus (of 0 2 ∷ of 1 40 ∷ [])) ≡ [] ∷ [] ∷ [])
   -- the signal has woken the receiver of another CPU: it is in the hand, and nowhere else
   pub in_hand : (hands (reached two_cpus (of 0 13 ∷ of 1 14 ∷ [])) ≡ None ∷ Some (thread 0) ∷ [])
       × (currents (reached two_cpus (of 0 13 ∷ of 1 14 ∷ [])) ≡ None ∷ Some (thread 1) ∷ [])
       × (parts_in (buffer_block_of two_cpus 0 (reached two_cpus (of 0 13 ∷ of 1 14 ∷ [])))
-      ≡ Some (record { busy = Some (thread 1); sleepers = []; waiting_receivers = []; waiting_senders = []; items = (7 ∷ []) ∷ [] }))
-      × (traces (reached two_cpus (of 0 13 ∷ of 1 14 ∷ [])) ≡ [] ∷ (as_entry 1 1 SendKind 0 (7 ∷ []) 0 0 ∷ []) ∷ [])
+      ≡ Some (record {
+        busy = Some (thread 1);
+        sleepers = [];
+        waiting_receivers = [];
+        waiting_senders = [];
+        items = (7 ∷ []) ∷ [];
+      }))
+      × (traces (reached two_cpus (of 0 13 ∷ of 1 14 ∷ []))
+      ≡ [] ∷ (as_entry 1 1 SendKind 0 (7 ∷ []) 0 0 ∷ []) ∷ [])
   -- the send that woke it takes 21 steps: one switch, one number set, 18 and the 3 that append the
   -- thread to the pending threads
-  pub under_way : (endings (reached two_cpus (of 0 13 ∷ of 1 22 ∷ [])) ≡ (false ∷ false ∷ []) ∷ (false ∷ false ∷ []) ∷ [])
-      × (currents (reached two_cpus (of 0 13 ∷ of 1 22 ∷ [])) ≡ None ∷ Some (thread 1) ∷ []) × (call_of 1 1 (reached two_cpus (of 0 13 ∷ of 1 23 ∷ [])) ≡ None)
-  pub pending : (pending_of two_cpus 0 (reached two_cpus (of 0 13 ∷ of 1 24 ∷ [])) ≡ Some (OfPending (thread 0 ∷ [])))
+  pub under_way : (endings (reached two_cpus (of 0 13 ∷ of 1 22 ∷ []))
+      ≡ (false ∷ false ∷ []) ∷ (false ∷ false ∷ []) ∷ [])
+      × (currents (reached two_cpus (of 0 13 ∷ of 1 22 ∷ [])) ≡ None ∷ Some (thread 1) ∷ [])
+      × (call_of 1 1 (reached two_cpus (of 0 13 ∷ of 1 23 ∷ [])) ≡ None)
+  pub pending : (pending_of two_cpus 0 (reached two_cpus (of 0 13 ∷ of 1 24 ∷ []))
+      ≡ Some (OfPending (thread 0 ∷ [])))
       × (reason two_cpus 1 (reached two_cpus (of 0 13 ∷ of 1 24 ∷ [])) ≡ Some AllEnded)
       × (at_buffer_0 two_cpus (reached two_cpus (of 0 13 ∷ of 1 24 ∷ [])) ≡ leaves ((7 ∷ []) ∷ []))
   -- the receiver is drained, runs again, and takes the item
   pub received : (traces (reached two_cpus (of 0 13 ∷ of 1 24 ∷ of 0 20 ∷ []))
-      ≡ (as_entry 0 0 RecvKind 0 (7 ∷ []) 1 0 ∷ []) ∷ (as_entry 1 1 SendKind 0 (7 ∷ []) 0 0 ∷ []) ∷ [])
+      ≡ (as_entry 0 0 RecvKind 0 (7 ∷ []) 1 0 ∷ []) ∷ (as_entry 1 1 SendKind 0 (7 ∷ []) 0 0 ∷ [])
+      ∷ [])
       × (at_buffer_0 two_cpus (reached two_cpus (of 0 13 ∷ of 1 24 ∷ of 0 20 ∷ [])) ≡ leaves [])
-      × (endings (reached two_cpus (of 0 13 ∷ of 1 24 ∷ of 0 20 ∷ [])) ≡ (true ∷ false ∷ []) ∷ (false ∷ true ∷ []) ∷ [])
+      × (endings (reached two_cpus (of 0 13 ∷ of 1 24 ∷ of 0 20 ∷ []))
+      ≡ (true ∷ false ∷ []) ∷ (false ∷ true ∷ []) ∷ [])
   -- both on one CPU: the woken thread is ready there at once, and no section appends it to the
   -- pending threads
-  pub on_one_cpu : (traces (reached one_cpu (of 0 51 ∷ [])) ≡ (as_entry 0 1 SendKind 0 (7 ∷ []) 0 0 ∷ as_entry 0 0 RecvKind 0 (7 ∷ []) 1 0 ∷ []) ∷ [])
-      × (at_buffer_0 one_cpu (reached one_cpu (of 0 51 ∷ [])) ≡ leaves []) × (endings (reached one_cpu (of 0 51 ∷ [])) ≡ (true ∷ true ∷ []) ∷ [])
+  pub on_one_cpu : (traces (reached one_cpu (of 0 51 ∷ []))
+      ≡ (as_entry 0 1 SendKind 0 (7 ∷ []) 0 0 ∷ as_entry 0 0 RecvKind 0 (7 ∷ []) 1 0 ∷ []) ∷ [])
+      × (at_buffer_0 one_cpu (reached one_cpu (of 0 51 ∷ [])) ≡ leaves [])
+      × (endings (reached one_cpu (of 0 51 ∷ [])) ≡ (true ∷ true ∷ []) ∷ [])
 
 abbrev pub first_half : List Burst
 first_half = of 0 13 ∷ of 1 13 ∷ of 2 43 ∷ of 1 6 ∷ []
@@ -260,8 +344,10 @@ handed_over = of 0 5 ∷ of 1 5 ∷ of 0 15 ∷ of 2 5 ∷ of 0 4 ∷ of 1 23 �
 pub record RunsOfThree : Type 0 where
   -- two receivers wait, and two sends occur: the first wakes the first receiver; the second wakes
   -- no thread, because the first in the line does not sleep
-  pub one_woken : (pending_of two_receivers 0 (reached two_receivers first_half) ≡ Some (OfPending (thread 0 ∷ [])))
-      × (at_buffer_0 two_receivers (reached two_receivers first_half) ≡ receiver_waits 1 ((7 ∷ []) ∷ (8 ∷ []) ∷ []))
+  pub one_woken : (pending_of two_receivers 0 (reached two_receivers first_half)
+      ≡ Some (OfPending (thread 0 ∷ [])))
+      × (at_buffer_0 two_receivers (reached two_receivers first_half)
+      ≡ receiver_waits 1 ((7 ∷ []) ∷ (8 ∷ []) ∷ []))
       × (reason two_receivers 2 (reached two_receivers first_half) ≡ Some AllEnded)
   -- the first receiver signals its own side too: without that signal the second one would sleep on
   -- beside its item
@@ -269,17 +355,32 @@ pub record RunsOfThree : Type 0 where
       ≡ (as_entry 0 0 RecvKind 0 (7 ∷ []) 2 0 ∷ []) ∷ (as_entry 1 1 RecvKind 0 (8 ∷ []) 3 1 ∷ [])
       ∷ (as_entry 2 2 SendKind 0 (7 ∷ []) 0 0 ∷ as_entry 2 2 SendKind 0 (8 ∷ []) 1 1 ∷ []) ∷ [])
       × (at_buffer_0 two_receivers (reached two_receivers both_halves) ≡ leaves [])
-      × (endings (reached two_receivers both_halves) ≡ (true ∷ false ∷ false ∷ []) ∷ (false ∷ true ∷ false ∷ []) ∷ (false ∷ false ∷ true ∷ []) ∷ [])
+      × (endings (reached two_receivers both_halves)
+      ≡ (true ∷ false ∷ false ∷ []) ∷ (false ∷ true ∷ false ∷ []) ∷ (false ∷ false ∷ true ∷ [])
+      ∷ [])
   -- a lock that is released passes to its first sleeper, which is in the hand of the CPU that
   -- released it
   pub lock_passes : (parts_in (buffer_block_of three_senders 0 (reached three_senders handing_over))
-      ≡ Some (record { busy = Some (thread 1); sleepers = thread 2 ∷ []; waiting_receivers = []; waiting_senders = []; items = (1 ∷ []) ∷ [] }))
+      ≡ Some (record {
+        busy = Some (thread 1);
+        sleepers = thread 2 ∷ [];
+        waiting_receivers = [];
+        waiting_senders = [];
+        items = (1 ∷ []) ∷ [];
+      }))
       × (hands (reached three_senders handing_over) ≡ Some (thread 1) ∷ None ∷ None ∷ [])
       × (currents (reached three_senders handing_over) ≡ Some (thread 0) ∷ None ∷ None ∷ [])
-  pub all_sent : (at_buffer_0 three_senders (reached three_senders handed_over) ≡ leaves ((1 ∷ []) ∷ (2 ∷ []) ∷ (3 ∷ []) ∷ []))
-      × (endings (reached three_senders handed_over) ≡ (true ∷ false ∷ false ∷ []) ∷ (false ∷ true ∷ false ∷ []) ∷ (false ∷ false ∷ true ∷ []) ∷ [])
+  pub all_sent : (at_buffer_0 three_senders (reached three_senders handed_over)
+      ≡ leaves ((1 ∷ []) ∷ (2 ∷ []) ∷ (3 ∷ []) ∷ []))
+      × (endings (reached three_senders handed_over)
+      ≡ (true ∷ false ∷ false ∷ []) ∷ (false ∷ true ∷ false ∷ []) ∷ (false ∷ false ∷ true ∷ [])
+      ∷ [])
   -- a receiver that finds an item but is not the first in its line waits
-  pub first_comes_first : (traces (reached receivers_apart (of 0 13 ∷ of 1 24 ∷ of 2 13 ∷ of 0 20 ∷ []))
-      ≡ (as_entry 0 0 RecvKind 0 (7 ∷ []) 1 0 ∷ []) ∷ (as_entry 1 1 SendKind 0 (7 ∷ []) 0 0 ∷ []) ∷ [] ∷ [])
-      × (at_buffer_0 receivers_apart (reached receivers_apart (of 0 13 ∷ of 1 24 ∷ of 2 13 ∷ of 0 20 ∷ [])) ≡ receiver_waits 2 [])
-      × (currents (reached receivers_apart (of 0 13 ∷ of 1 24 ∷ of 2 13 ∷ of 0 20 ∷ [])) ≡ None ∷ None ∷ None ∷ [])
+  pub first_comes_first : (traces
+      (reached receivers_apart (of 0 13 ∷ of 1 24 ∷ of 2 13 ∷ of 0 20 ∷ []))
+      ≡ (as_entry 0 0 RecvKind 0 (7 ∷ []) 1 0 ∷ []) ∷ (as_entry 1 1 SendKind 0 (7 ∷ []) 0 0 ∷ [])
+      ∷ [] ∷ [])
+      × (at_buffer_0 receivers_apart
+      (reached receivers_apart (of 0 13 ∷ of 1 24 ∷ of 2 13 ∷ of 0 20 ∷ [])) ≡ receiver_waits 2 [])
+      × (currents (reached receivers_apart (of 0 13 ∷ of 1 24 ∷ of 2 13 ∷ of 0 20 ∷ []))
+      ≡ None ∷ None ∷ None ∷ [])

@@ -1,15 +1,27 @@
 -- The plan of each poll is a row of the step table. It requests the table's section, and what it
 -- makes of the section's result is what the table makes of it.
-use Rattle.std.specs.Prelude.{◌≡◌, ◌⊎◌, ◌<◌, Bool, true, false, List, Option, Some, None, IsSome, length, map, option_map, slice_get}
-use Rattle.layer_traits.specs.{Views.OwnParts.threads_in, declared.{calls.{Call.Call, Effect.Effect}, conditions.CvOut.CvOut, buffer_edits.BufferOut.BufferOut}}
-use Rattle.layer_traits.specs.declared.{locked.QOut.QOut, call_states.Stage.{Stage, TheVariants.{Idle, Acquires, Enters, Tries, Waits, AcquiresAgain, Signals}}}
-use Rattle.layer_traits.specs.declared.{call_states.Stage.TheVariants.{SignalsOwn, Releases}, steps.{Reason.Reason, Step.{Step, TheVariants.{Stepped, Halted}}}}
-use Rattle.layer_traits.specs.{Layers.{QLockLaw.slept_for, BufferLaw.{Buffering, fifo_plan, call_state_of}}, Polling.Plans.{Left, Plan, Act, is_in_section}}
-use Rattle.event_log.specs.declared.{entries.Entry.Entry, ids.{BufId.BufId, CpuId.CpuId, LockId.{LockId, TheVariants.{Pending, Buffer}}, Tid.Tid}}
-use Rattle.{event_log.specs.Actions.{Action, phase, renamed}, guest.specs.{declared.instructions.Instruction.Instruction, State.{State, next_of, message_from}}}
-use Rattle.cpu.specs.Table.{Blocks.Name, Setups.{Setup, Private, program_of, opening as table_opening}, Choice.{asked, after_section}, Steps.cpu_step}
-use Rattle.cpu.specs.{Table.Steps.halted_at, Tower.{Views.{TowerName, TowerOut, TowerAnswer, TowerBlock, tower, name_of, view, answer_view}, Privates.state_at}}
-use Rattle.cpu.specs.Tower.Privates.{private_after, private_of}
+use Rattle.std.specs.Prelude.{◌≡◌, ◌⊎◌, ◌<◌, Bool, true, false, List, Option, Some, None, IsSome}
+use Rattle.std.specs.Prelude.{length, map, option_map, slice_get}
+use Rattle.layer_traits.specs.{Views.OwnParts.threads_in, declared.calls.{Call.Call, Effect.Effect}}
+use Rattle.layer_traits.specs.declared.{conditions.CvOut.CvOut, buffer_edits.BufferOut.BufferOut}
+use Rattle.layer_traits.specs.declared.{locked.QOut.QOut, call_states.Stage.Stage}
+use Rattle.layer_traits.specs.declared.call_states.Stage.TheVariants.{Idle, Acquires, Enters, Tries}
+use Rattle.layer_traits.specs.declared.call_states.Stage.TheVariants.{Waits, AcquiresAgain, Signals}
+use Rattle.layer_traits.specs.declared.call_states.Stage.TheVariants.{SignalsOwn, Releases}
+use Rattle.layer_traits.specs.declared.steps.{Reason.Reason, Step.{Step, TheVariants.Stepped}}
+use Rattle.layer_traits.specs.{declared.steps.Step.TheVariants.Halted, Layers.QLockLaw.slept_for}
+use Rattle.layer_traits.specs.Layers.BufferLaw.{Buffering, fifo_plan, call_state_of}
+use Rattle.layer_traits.specs.Polling.Plans.{Left, Plan, Act, is_in_section}
+use Rattle.event_log.specs.declared.{entries.Entry.Entry, ids.{BufId.BufId, CpuId.CpuId}}
+use Rattle.event_log.specs.declared.ids.{LockId.{LockId, TheVariants.{Pending, Buffer}}, Tid.Tid}
+use Rattle.event_log.specs.Actions.{Action, phase, renamed}
+use Rattle.guest.specs.{declared.instructions.Instruction.Instruction, State.{State, next_of}}
+use Rattle.{guest.specs.State.message_from, cpu.specs.Table.{Blocks.Name, Setups.{Setup, Private}}}
+use Rattle.cpu.specs.Table.{Setups.{program_of, opening as table_opening}, Choice.asked}
+use Rattle.cpu.specs.Table.{Choice.after_section, Steps.{cpu_step, halted_at}}
+use Rattle.cpu.specs.Tower.Views.{TowerName, TowerOut, TowerAnswer, TowerBlock, tower, name_of}
+use Rattle.cpu.specs.Tower.{Views.{view, answer_view}, Privates.{state_at, private_after}}
+use Rattle.cpu.specs.Tower.Privates.{private_of}
 use Rattle.guest.specs.declared.instructions.Instruction.TheVariants as instruction
 use Rattle.layer_traits.specs.declared.calls.Call.TheVariants as asks_for
 use Rattle.layer_traits.specs.declared.conditions.CvOut.TheVariants as cv
@@ -23,7 +35,8 @@ woken_outcome out u = record { out = out; slept = false; woke = Some u }
 -- The states of a begun call: at each stage the hand, the kept result, where its caller slept or
 -- waited, and its effect. While a woken thread is in the hand, the result of the section that woke
 -- it is kept.
-pub data CallStands : Stage → (hand : Option Tid) → (deferred : Option TowerOut) → (slept waits : Option BufId) → (effect : Option Effect) → Type 0 where
+pub data CallStands : Stage → (hand : Option Tid) → (deferred : Option TowerOut)
+    → (slept waits : Option BufId) → (effect : Option Effect) → Type 0 where
   asks : CallStands Acquires None None None None None
   was_handed : (b : BufId) → CallStands Acquires None None (Some b) None None
   enters : CallStands Enters None None None None None
@@ -35,9 +48,13 @@ pub data CallStands : Stage → (hand : Option Tid) → (deferred : Option Tower
   signals : (f : Effect) → CallStands Signals None None None None (Some f)
   signals_own : (f : Effect) → CallStands SignalsOwn None None None None (Some f)
   releases : (f : Effect) → CallStands Releases None None None None (Some f)
-  has_signalled : (u : Tid) (v : CvOut BufferOut) (f : Effect) → CallStands Signals (Some u) (Some (woken_outcome (lock.Did v) u)) None None (Some f)
-  has_signalled_own : (u : Tid) (v : CvOut BufferOut) (f : Effect) → CallStands SignalsOwn (Some u) (Some (woken_outcome (lock.Did v) u)) None None (Some f)
-  has_released : (u : Tid) (f : Effect) → CallStands Releases (Some u) (Some (woken_outcome (lock.Released cv.Left) u)) None None (Some f)
+  has_signalled : (u : Tid) (v : CvOut BufferOut) (f : Effect)
+      → CallStands Signals (Some u) (Some (woken_outcome (lock.Did v) u)) None None (Some f)
+  has_signalled_own : (u : Tid) (v : CvOut BufferOut) (f : Effect)
+      → CallStands SignalsOwn (Some u) (Some (woken_outcome (lock.Did v) u)) None None (Some f)
+  has_released : (u : Tid) (f : Effect)
+      → CallStands Releases (Some u) (Some (woken_outcome (lock.Released cv.Left) u)) None None
+      (Some f)
 
 -- a call that is in a line of its buffer until its effect: every call except a close
 abbrev pub IsLined : Call → Type 0
@@ -60,9 +77,11 @@ FitsStage stage call = Unit {0}
 pub record IsGoing (own : Buffering) (guests : List State) (t : Tid) (call : Call) : Type 0 where
   pub current : (threads_in own).current ≡ Some t
   pub begun : (call_state_of own.call_states t).call ≡ Some call
-  pub stands : CallStands (call_state_of own.call_states t).stage (threads_in own).hand own.cv.lock.sleep.deferred (slept_for own.cv.lock.slept t)
+  pub stands : CallStands (call_state_of own.call_states t).stage (threads_in own).hand
+      own.cv.lock.sleep.deferred (slept_for own.cv.lock.slept t)
       (slept_for own.cv.waits t) (call_state_of own.call_states t).effect
-  pub fits : FitsStage (call_state_of own.call_states t).stage (call_state_of own.call_states t).call
+  pub fits : FitsStage (call_state_of own.call_states t).stage
+      (call_state_of own.call_states t).call
   pub in_guests : t.0 < length guests
   pub in_call_states : t.0 < length own.call_states
   pub in_slept : t.0 < length own.cv.lock.slept
@@ -70,7 +89,8 @@ pub record IsGoing (own : Buffering) (guests : List State) (t : Tid) (call : Cal
 
 -- the thread in the hand has a home CPU
 abbrev pub HandIsKnown : Setup → Buffering → Type 0
-HandIsKnown setup own = (u : Tid) → (threads_in own).hand ≡ Some u → IsSome (slice_get setup.homes u.0)
+HandIsKnown setup own =
+    (u : Tid) → (threads_in own).hand ≡ Some u → IsSome (slice_get setup.homes u.0)
 
 -- a block is of its lock's kind
 abbrev pub IsKind : LockId → TowerBlock → Type 0
@@ -87,7 +107,8 @@ IsUsed setup c (Pending d) = (d ≡ c) ⊎ ((u : Tid) × (slice_get setup.homes 
 
 -- The plan of a poll is the table's row from p. It requests the section that the table requests,
 -- leaves p until that has a result, and makes of each result what the table makes of it.
-pub record IsLine {A : Type 0} (setup : Setup) (c : CpuId) (p : Private) (plan : Plan TowerName TowerAnswer Buffering A)
+pub record IsLine {A : Type 0} (setup : Setup) (c : CpuId) (p : Private)
+    (plan : Plan TowerName TowerAnswer Buffering A)
     (after : Left Buffering A → Private) : Type 0 where
   pub lock : LockId
   pub name : TowerName
@@ -96,14 +117,19 @@ pub record IsLine {A : Type 0} (setup : Setup) (c : CpuId) (p : Private) (plan :
   pub asks : asked setup c p ≡ record { lock = lock; name = name_of name }
   pub used : IsUsed setup c lock
   pub stays : after (react None) ≡ p
-  pub gives : (x : TowerBlock) → IsKind lock x → HandIsKnown setup (react (Some (tower.answer name x))).own
-      → after (react (Some (tower.answer name x))) ≡ after_section setup c p (answer_view (tower.answer name x))
+  pub gives : (x : TowerBlock) → IsKind lock x
+      → HandIsKnown setup (react (Some (tower.answer name x))).own
+      → after (react (Some (tower.answer name x)))
+      ≡ after_section setup c p (answer_view (tower.answer name x))
 
 -- the plan of every poll of a begun call is a row of the table
 abbrev pub PlansAreLines : Type 0
-PlansAreLines = (setup : Setup) (c : CpuId) (own : Buffering) (guests : List State) (trace : List Entry) (t : Tid) (call : Call)
+PlansAreLines =
+    (setup : Setup) (c : CpuId) (own : Buffering) (guests : List State) (trace : List Entry)
+    (t : Tid) (call : Call)
     → IsGoing own guests t call → HandIsKnown setup own
-    → IsLine setup c (private_of own guests trace) (fifo_plan setup.homes c t call own) (private_after setup c t call own guests trace)
+    → IsLine setup c (private_of own guests trace) (fifo_plan setup.homes c t call own)
+    (private_after setup c t call own guests trace)
 
 -- the actions under the table's names
 abbrev pub named : List (Action TowerName) → List (Action Name)
@@ -111,7 +137,8 @@ named acts = map (renamed name_of) acts
 
 -- the opening blocks of the locks that a CPU requests are the table's
 abbrev pub OpensAs : Setup → CpuId → (LockId → Option TowerBlock) → Type 0
-OpensAs setup c opening = (l : LockId) → IsUsed setup c l → option_map view (opening l) ≡ table_opening setup l
+OpensAs setup c opening =
+    (l : LockId) → IsUsed setup c l → option_map view (opening l) ≡ table_opening setup l
 
 -- the call that an instruction requests
 abbrev pub AsksFor : Instruction → State → Call → Type 0
@@ -121,7 +148,8 @@ AsksFor (instruction.Close b) guest call = call ≡ asks_for.Close b
 AsksFor other guest call = ⊥
 
 -- thread t runs, is in no call, and is at this one
-pub record IsBeginning (setup : Setup) (own : Buffering) (guests : List State) (t : Tid) (call : Call) : Type 0 where
+pub record IsBeginning (setup : Setup) (own : Buffering) (guests : List State) (t : Tid)
+    (call : Call) : Type 0 where
   pub current : (threads_in own).current ≡ Some t
   pub hand : (threads_in own).hand ≡ None
   pub deferred : own.cv.lock.sleep.deferred ≡ None
@@ -143,4 +171,5 @@ busy_step_answer false (Some reason) = Halted reason
 -- a step of the table reports that the CPU is halted exactly if it is and no section is under way
 abbrev pub HaltsExactly : Type 0
 HaltsExactly = (setup : Setup) (c : CpuId) (p : Private) (log : List (Action Name))
-    → (cpu_step setup c p log).answer ≡ busy_step_answer (is_in_section (phase c log)) (halted_at setup c p)
+    → (cpu_step setup c p log).answer
+    ≡ busy_step_answer (is_in_section (phase c log)) (halted_at setup c p)

@@ -1,14 +1,23 @@
 -- A CPU's part, its guests by thread number and its trace as the table's private state. Some
 -- sections of a woken thread, or of its caller, the part does only after that thread runs again,
 -- when the table has already continued. Both do the same actions.
-use Rattle.std.specs.Prelude.{ℕ, ◌+◌, Bool, true, false, ◌&&◌, List, [], ◌∷◌, ◌++◌, Option, Some, None, is_some, option_map, slice_index_or, slice_set}
-use Rattle.layer_traits.specs.{Views.OwnParts.threads_in, declared.{calls.{Call.Call as TowerCall, Effect.Effect, Reply.Reply}, passes.Pass.Pass}}
-use Rattle.layer_traits.specs.declared.call_states.Stage.{Stage, TheVariants.{Idle, Acquires, Enters, Tries, Waits, AcquiresAgain, Signals, SignalsOwn}}
-use Rattle.layer_traits.specs.{declared.call_states.{Stage.TheVariants.Releases, CallState.CallState}, Layers.{QLockLaw.slept_for, BufferLaw.Buffering}}
-use Rattle.layer_traits.specs.{Layers.BufferLaw.{begun_at, buffer_of, entry_of, going, call_state_of}, Threads.Places.is_thread, Polling.Plans.Left}
-use Rattle.event_log.specs.{declared.{entries.{Entry.Entry, Kind.Kind}, ids.{BufId.BufId, CpuId.CpuId, Tid.Tid}}, Messages.{Message, no_message}, Runs.Group}
-use Rattle.{event_log.specs.Runs.{Sends, Receives, Closes}, guest.specs.State.{State, at_start, next_of, after_yield}, thread_blocks.specs.Queues.is_in}
-use Rattle.cpu.specs.{Guests.after_answer, Table.Setups.{Setup, Call, Thread, Private, program_of}}
+use Rattle.std.specs.Prelude.{ℕ, ◌+◌, Bool, true, false, ◌&&◌, List, [], ◌∷◌, ◌++◌, Option, Some}
+use Rattle.std.specs.Prelude.{None, is_some, option_map, slice_index_or, slice_set}
+use Rattle.layer_traits.specs.{Views.OwnParts.threads_in, declared.calls.Call.Call as TowerCall}
+use Rattle.layer_traits.specs.declared.{calls.{Effect.Effect, Reply.Reply}, passes.Pass.Pass}
+use Rattle.layer_traits.specs.declared.call_states.Stage.{Stage, TheVariants.{Idle, Acquires}}
+use Rattle.layer_traits.specs.declared.call_states.Stage.TheVariants.{Enters, Tries, Waits}
+use Rattle.layer_traits.specs.declared.call_states.Stage.TheVariants.{AcquiresAgain, Signals}
+use Rattle.layer_traits.specs.declared.call_states.Stage.TheVariants.{SignalsOwn, Releases}
+use Rattle.layer_traits.specs.{declared.call_states.CallState.CallState, Layers.QLockLaw.slept_for}
+use Rattle.layer_traits.specs.Layers.BufferLaw.{Buffering, begun_at, buffer_of, entry_of, going}
+use Rattle.layer_traits.specs.{Layers.BufferLaw.call_state_of, Threads.Places.is_thread}
+use Rattle.{layer_traits.specs.Polling.Plans.Left, event_log.specs.declared.entries.Entry.Entry}
+use Rattle.event_log.specs.declared.{entries.Kind.Kind, ids.{BufId.BufId, CpuId.CpuId, Tid.Tid}}
+use Rattle.event_log.specs.{Messages.{Message, no_message}, Runs.{Group, Sends, Receives, Closes}}
+use Rattle.guest.specs.State.{State, at_start, next_of, after_yield}
+use Rattle.{thread_blocks.specs.Queues.is_in, cpu.specs.{Guests.after_answer, Table.Setups.Setup}}
+use Rattle.cpu.specs.Table.Setups.{Call, Thread, Private, program_of}
 use Rattle.event_log.specs.declared.entries.Kind.TheVariants as kind
 use Rattle.layer_traits.specs.declared.calls.Call.TheVariants as asks
 use Rattle.layer_traits.specs.declared.passes.Pass.TheVariants as pass
@@ -77,10 +86,13 @@ stage_from stage slept waits false = stage_of stage slept waits
 
 -- a thread, from its call state, where it sleeps or waits, whether its section's result is kept,
 -- whether it has ended, and its guest
-abbrev pub thread_from : CallState → (slept waits : Option BufId) → (deferred ended : Bool) → State → Thread
+abbrev pub thread_from : CallState → (slept waits : Option BufId) → (deferred ended : Bool) → State
+    → Thread
 thread_from call_state slept waits deferred ended guest = record {
   guest = guest;
-  call = option_map (λ call. call_from call call_state.position call_state.effect (stage_from call_state.stage slept waits deferred))
+  call =
+      option_map (λ call. call_from call call_state.position call_state.effect
+      (stage_from call_state.stage slept waits deferred))
       (begun_at call_state.stage call_state.call);
   ended = ended;
 }
@@ -90,7 +102,9 @@ abbrev pub is_deferred : Buffering → Tid → Bool
 is_deferred own u = is_thread u (threads_in own).current && is_some own.cv.lock.sleep.deferred
 
 abbrev pub thread_of : Buffering → Tid → State → Thread
-thread_of own u guest = thread_from (call_state_of own.call_states u) (slept_for own.cv.lock.slept u) (slept_for own.cv.waits u) (is_deferred own u)
+thread_of own u guest =
+    thread_from (call_state_of own.call_states u) (slept_for own.cv.lock.slept u)
+    (slept_for own.cv.waits u) (is_deferred own u)
     (is_in u (threads_in own).ended) guest
 
 -- threads by number, from n upwards
@@ -118,25 +132,32 @@ state_at guests t = slice_index_or guests t.0 at_start
 abbrev pub guests_after : Setup → Tid → Option Reply → List State → List State
 guests_after setup t None guests = guests
 guests_after setup t (Some reply) guests =
-    slice_set guests t.0 (after_answer (Some reply) (next_of (program_of setup t) (state_at guests t)) (state_at guests t))
+    slice_set guests t.0 (after_answer (Some reply)
+    (next_of (program_of setup t) (state_at guests t)) (state_at guests t))
 
 -- the trace after a poll: an effect writes its entry in the poll in which it occurs
-abbrev pub trace_after : CpuId → Tid → BufId → (before after : Option Effect) → List Entry → List Entry
+abbrev pub trace_after : CpuId → Tid → BufId → (before after : Option Effect) → List Entry
+    → List Entry
 trace_after c t b None (Some f) trace = trace ++ entry_of c t b f ∷ []
 trace_after c t b before after trace = trace
 
 -- the private state after a poll of a call
-abbrev pub private_after : Setup → CpuId → Tid → TowerCall → Buffering → List State → List Entry → Left Buffering Reply → Private
-private_after setup c t call own guests trace left = private_of left.own (guests_after setup t left.answer guests)
-    (trace_after c t (buffer_of call) (going (call_state_of own.call_states t) call).effect (call_state_of left.own.call_states t).effect trace)
+abbrev pub private_after : Setup → CpuId → Tid → TowerCall → Buffering → List State → List Entry
+    → Left Buffering Reply → Private
+private_after setup c t call own guests trace left =
+    private_of left.own (guests_after setup t left.answer guests)
+    (trace_after c t (buffer_of call) (going (call_state_of own.call_states t) call).effect
+    (call_state_of left.own.call_states t).effect trace)
 
 -- the guests after a poll of a pass: that of a thread which has yielded continues
 abbrev pub guests_passed : Setup → Pass → Option Tid → Option (Unit {0}) → List State → List State
 guests_passed setup pass.YieldNow (Some t) (Some answer) guests =
-    slice_set guests t.0 (after_yield (next_of (program_of setup t) (state_at guests t)) (state_at guests t))
+    slice_set guests t.0 (after_yield (next_of (program_of setup t) (state_at guests t))
+    (state_at guests t))
 guests_passed setup other current answer guests = guests
 
 -- the private state after a poll of a pass
-abbrev pub private_passed : Setup → Buffering → List State → List Entry → Pass → Left Buffering (Unit {0}) → Private
+abbrev pub private_passed : Setup → Buffering → List State → List Entry → Pass
+    → Left Buffering (Unit {0}) → Private
 private_passed setup own guests trace p left =
     private_of left.own (guests_passed setup p (threads_in own).current left.answer guests) trace

@@ -1,15 +1,23 @@
 -- The layers viewed as the step table (abstraction functions): the table's name of each section,
 -- its block and its result.
 use Rattle.std.specs.Prelude.{◌≡◌, ℕ}
-use Rattle.{event_log.specs.{declared.{entries.Kind.Kind, ids.Tid.Tid}, Messages.Message}, layer_traits.specs.declared.locked.QEdit.TheVariants.Acquire}
-use Rattle.layer_traits.specs.declared.locked.{QEdit.TheVariants.{Inside, Release}, QOut.QOut, Side.{Side, TheVariants.{Receivers, Senders}}}
-use Rattle.layer_traits.specs.declared.conditions.{CvEdit.TheVariants.{Edit, SignalFront}, CvLeave.TheVariants.{Leave, Wait}, CvOut.CvOut}
-use Rattle.layer_traits.specs.declared.{buffer_edits.{BufferEdit.BufferEdit, BufferOut.BufferOut}, queue_edits.{QueueBlock.QueueBlock, QueueEdit.QueueEdit}}
-use Rattle.layer_traits.specs.{declared.{queue_edits.QueueAnswer.QueueAnswer, sleeps.Outcome.Outcome}, Blocks.BufferBlocks.BufferState}
-use Rattle.layer_traits.specs.{Blocks.{BufferProtocol.buffer_rules, QueueRules.queue_rules}, Layers.{Conditions.CvCall, QLocking.{LockState, lock_moves}}}
-use Rattle.{layer_traits.specs.{Layers.QLocking.lock_rules, Polling.Plans.{Table, table_of}}, cpu.specs.Table.Blocks.{Buffer, Block, OfBuffer, OfPending, Name}}
-use Rattle.cpu.specs.Table.Blocks.{AcqQ, Enter, TryPut, TryTake, Shut, WaitOn, SigRecv, SigSend, RelQ, Pend, TakeAll, Reported, Nothing, Position, Done}
-use Rattle.cpu.specs.Table.{Blocks.{WasClosed, DidShut, NotYet, Drained, Answer}, Edits.{edited, answer, reports}}
+use Rattle.event_log.specs.{declared.{entries.Kind.Kind, ids.Tid.Tid}, Messages.Message}
+use Rattle.layer_traits.specs.declared.locked.QEdit.TheVariants.{Acquire, Inside, Release}
+use Rattle.layer_traits.specs.declared.locked.{QOut.QOut, Side.{Side, TheVariants.Receivers}}
+use Rattle.layer_traits.specs.declared.locked.Side.TheVariants.{Senders}
+use Rattle.layer_traits.specs.declared.conditions.CvEdit.TheVariants.{Edit, SignalFront}
+use Rattle.layer_traits.specs.declared.conditions.{CvLeave.TheVariants.{Leave, Wait}, CvOut.CvOut}
+use Rattle.layer_traits.specs.declared.buffer_edits.{BufferEdit.BufferEdit, BufferOut.BufferOut}
+use Rattle.layer_traits.specs.declared.queue_edits.{QueueBlock.QueueBlock, QueueEdit.QueueEdit}
+use Rattle.layer_traits.specs.declared.{queue_edits.QueueAnswer.QueueAnswer, sleeps.Outcome.Outcome}
+use Rattle.layer_traits.specs.Blocks.{BufferBlocks.BufferState, BufferProtocol.buffer_rules}
+use Rattle.layer_traits.specs.{Blocks.QueueRules.queue_rules, Layers.Conditions.CvCall}
+use Rattle.layer_traits.specs.Layers.QLocking.{LockState, lock_moves, lock_rules}
+use Rattle.{layer_traits.specs.Polling.Plans.{Table, table_of}, cpu.specs.Table.Blocks.Buffer}
+use Rattle.cpu.specs.Table.Blocks.{Block, OfBuffer, OfPending, Name, AcqQ, Enter, TryPut, TryTake}
+use Rattle.cpu.specs.Table.Blocks.{Shut, WaitOn, SigRecv, SigSend, RelQ, Pend, TakeAll, Reported}
+use Rattle.cpu.specs.Table.Blocks.{Nothing, Position, Done, WasClosed, DidShut, NotYet, Drained}
+use Rattle.cpu.specs.Table.{Blocks.Answer, Edits.{edited, answer, reports}}
 use Rattle.event_log.specs.declared.entries.Kind.TheVariants as kind
 use Rattle.layer_traits.specs.declared.locked.QOut.TheVariants as lock
 use Rattle.layer_traits.specs.declared.conditions.CvOut.TheVariants as cv
@@ -129,5 +137,7 @@ answer_view (told.Answer o) = record { told = report_in o.out; slept = o.slept; 
 pub record TablesAgree : Type 0 where
   pub names : (n : Name) → name_of (code n) ≡ n
   pub codes : (e : TowerName) → code (name_of e) ≡ e
-  pub edits : (e : TowerName) (x : TowerBlock) → view (tower.edited e x) ≡ edited (name_of e) (view x)
-  pub answers : (e : TowerName) (x : TowerBlock) → answer_view (tower.answer e x) ≡ answer (name_of e) (view x)
+  pub edits : (e : TowerName) (x : TowerBlock)
+      → view (tower.edited e x) ≡ edited (name_of e) (view x)
+  pub answers : (e : TowerName) (x : TowerBlock)
+      → answer_view (tower.answer e x) ≡ answer (name_of e) (view x)

@@ -1,12 +1,20 @@
 -- A call without contention: how many steps it takes if only its CPU steps.
-use Rattle.std.specs.Prelude.{◌≡◌, ℕ, ◌+◌, ◌≤◌, ◌<◌, Bool, false, not, [], ◌∷◌, ◌++◌, Option, Some, None, slice_get, if◌then◌else◌}
-use Rattle.event_log.specs.declared.{ids.{CpuId.CpuId, Tid.Tid, BufId.BufId, LockId.TheVariants.Buffer as AtBuffer}, entries.Kind.Kind}
-use Rattle.event_log.specs.declared.entries.{Kind.TheVariants.{Send as SendKind, Recv as RecvKind, Close as CloseKind, SendClosed, RecvClosed}, Entry.Entry}
-use Rattle.event_log.specs.{Messages.Message, Runs.{Group, Sends, Receives, Closes, group_of}, Actions.{phase, Rests, AreFree}, History.same_cpu}
-use Rattle.{guest.specs.declared.instructions.Instruction.{Instruction, TheVariants.{Send, Recv, Close}}, layer_traits.specs.declared.locked.Side.Side}
-use Rattle.{layer_traits.specs.declared.locked.Side.TheVariants.{Receivers, Senders}, cpu.specs.Table.Blocks.{Buffer, OfBuffer, front, front_stands_in}}
-use Rattle.cpu.specs.Table.{Setups.{Call, Setup, Private, home_cpu, thread_at, stands_at}, Steps.{Whole, IsReached, block_at, halted_at, steps_by}}
-use Rattle.cpu.specs.{Table.Edits.{line_on, waiting_of}, Wakeups.{Lost.Allows, Quiet.AreFew}}
+use Rattle.std.specs.Prelude.{◌≡◌, ℕ, ◌+◌, ◌≤◌, ◌<◌, Bool, false, not, [], ◌∷◌, ◌++◌, Option, Some}
+use Rattle.std.specs.Prelude.{None, slice_get, if◌then◌else◌}
+use Rattle.event_log.specs.declared.ids.{CpuId.CpuId, Tid.Tid, BufId.BufId}
+use Rattle.event_log.specs.declared.{ids.LockId.TheVariants.Buffer as AtBuffer, entries.Kind.Kind}
+use Rattle.event_log.specs.declared.entries.Kind.TheVariants.{Send as SendKind, Recv as RecvKind}
+use Rattle.event_log.specs.declared.entries.Kind.TheVariants.{Close as CloseKind, SendClosed}
+use Rattle.event_log.specs.declared.entries.{Kind.TheVariants.RecvClosed, Entry.Entry}
+use Rattle.event_log.specs.{Messages.Message, Runs.{Group, Sends, Receives, Closes, group_of}}
+use Rattle.event_log.specs.{Actions.{phase, Rests, AreFree}, History.same_cpu}
+use Rattle.guest.specs.declared.instructions.Instruction.{Instruction, TheVariants.{Send, Recv}}
+use Rattle.guest.specs.declared.instructions.Instruction.TheVariants.{Close}
+use Rattle.layer_traits.specs.declared.locked.Side.{Side, TheVariants.{Receivers, Senders}}
+use Rattle.cpu.specs.Table.{Blocks.{Buffer, OfBuffer, front, front_stands_in}, Setups.{Call, Setup}}
+use Rattle.cpu.specs.Table.{Setups.{Private, home_cpu, thread_at, stands_at}, Steps.Whole}
+use Rattle.cpu.specs.Table.{Steps.{IsReached, block_at, halted_at, steps_by}, Edits.line_on}
+use Rattle.cpu.specs.{Table.Edits.waiting_of, Wakeups.{Lost.Allows, Quiet.AreFew}}
 
 -- the instruction is a send, a receive, or a close, of this buffer
 abbrev pub IsCallOn : Group → BufId → Instruction → Type 0
@@ -45,7 +53,8 @@ pub record IsReady (setup : Setup) (c : CpuId) (s : Whole) (p : Private) (t : Ti
 
 -- the thread is inside no call, and the trace of its CPU has one entry more, of this thread, kind
 -- and buffer
-pub record HasReturned (s : Whole) (c : CpuId) (p : Private) (t : Tid) (kind : Kind) (b : BufId) : Type 0 where
+pub record HasReturned (s : Whole) (c : CpuId) (p : Private) (t : Tid) (kind : Kind)
+    (b : BufId) : Type 0 where
   pub now : Private
   pub here : slice_get s.cpus c.0 ≡ Some now
   pub outside : (thread_at now t).call ≡ None
@@ -62,7 +71,8 @@ pub record IsInCall (s : Whole) (c : CpuId) (t : Tid) : Type 0 where
 
 -- the first of a line, if it waits
 abbrev pub first_waiter : Side → Buffer → Option Tid
-first_waiter side k = if front_stands_in (line_on side k) (waiting_of side k) then front (line_on side k) else None
+first_waiter side k =
+    if front_stands_in (line_on side k) (waiting_of side k) then front (line_on side k) else None
 
 -- whether the first of a line waits and is of another CPU
 abbrev pub is_away : Setup → CpuId → Option Tid → Bool
@@ -81,14 +91,21 @@ steps_to_return setup c SendKind k = 18 + steps_to_move setup c (first_waiter Re
 steps_to_return setup c RecvKind k = 18 + steps_to_move setup c (first_waiter Senders k)
 steps_to_return setup c SendClosed k = 18
 steps_to_return setup c RecvClosed k = 18
-steps_to_return setup c CloseKind k = 15 + (steps_to_move setup c (first_waiter Receivers k) + steps_to_move setup c (first_waiter Senders k))
+steps_to_return setup c CloseKind k =
+    15 + (steps_to_move setup c (first_waiter Receivers k)
+    + steps_to_move setup c (first_waiter Senders k))
 
 -- such a call takes effect and returns after exactly so many steps of its CPU: one step earlier it
 -- is still under way
 abbrev pub CallsReturnAlone : Type 0
-CallsReturnAlone = (setup : Setup) (room : ℕ) (s : Whole) (c : CpuId) (p : Private) (t : Tid) → AreFew setup → IsReached setup room s
+CallsReturnAlone =
+    (setup : Setup) (room : ℕ) (s : Whole) (c : CpuId) (p : Private) (t : Tid) → AreFew setup
+    → IsReached setup room s
     → (ready : IsReady setup c s p t) → s.taken + 21 ≤ s.room
-    → HasReturned (steps_by setup c (steps_to_return setup c ready.effect ready.block) s) c p t ready.effect ready.buffer
-    × ((n : ℕ) → n + 1 ≡ steps_to_return setup c ready.effect ready.block → IsInCall (steps_by setup c n s) c t)
+    → HasReturned (steps_by setup c (steps_to_return setup c ready.effect ready.block) s) c p t
+    ready.effect ready.buffer
+    × ((n : ℕ) → n + 1 ≡ steps_to_return setup c ready.effect ready.block
+    → IsInCall (steps_by setup c n s) c t)
     -- a close wakes a thread of both lines only if the buffer has no room at all
-    × (ready.effect ≡ CloseKind → 18 < steps_to_return setup c ready.effect ready.block → ready.block.capacity ≡ 0)
+    × (ready.effect ≡ CloseKind → 18 < steps_to_return setup c ready.effect ready.block
+    → ready.block.capacity ≡ 0)

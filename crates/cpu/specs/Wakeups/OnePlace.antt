@@ -1,9 +1,12 @@
 -- Every thread has exactly one place: it runs, is ready, is in a hand, is pending, sleeps at a lock
 -- or waits at a buffer.
-use Rattle.std.specs.Prelude.{◌≡◌, ℕ, zero, suc, Bool, not, ◌&&◌, nat_lt, List, [], ◌++◌, length, Option, Some, None, slice_get}
-use Rattle.{event_log.specs.declared.ids.{Tid.Tid, LockId.TheVariants.{Pending, Buffer as AtBuffer}}, layer_traits.specs.Threads.Passes.as_list}
-use Rattle.{layer_traits.specs.Threads.Places.{one_if, count_in}, cpu.specs.Table.{Blocks.{Block, OfBuffer, OfPending}, Setups.{Setup, Thread, Private}}}
-use Rattle.cpu.specs.Table.{Setups.{new_thread, thread_at, home_cpu}, Steps.{Whole, IsReached, cpu_numbered, block_at}, Worked.buffer_numbered}
+use Rattle.std.specs.Prelude.{◌≡◌, ℕ, zero, suc, Bool, not, ◌&&◌, nat_lt, List, [], ◌++◌, length}
+use Rattle.std.specs.Prelude.{Option, Some, None, slice_get}
+use Rattle.event_log.specs.declared.ids.{Tid.Tid, LockId.TheVariants.{Pending, Buffer as AtBuffer}}
+use Rattle.layer_traits.specs.Threads.{Passes.as_list, Places.{one_if, count_in}}
+use Rattle.cpu.specs.Table.{Blocks.{Block, OfBuffer, OfPending}, Setups.{Setup, Thread, Private}}
+use Rattle.cpu.specs.Table.{Setups.{new_thread, thread_at, home_cpu}, Steps.{Whole, IsReached}}
+use Rattle.cpu.specs.Table.{Steps.{cpu_numbered, block_at}, Worked.buffer_numbered}
 use Rattle.cpu.specs.Wakeups.Quiet.{HomesExist}
 
 -- the threads that a CPU has: the running one, those that are ready, the one in its hand
@@ -34,7 +37,9 @@ of_buffer setup s n = queues_in (block_at setup (AtBuffer (buffer_numbered n)) s
 
 -- all queues of a system
 abbrev pub everyone : Setup → Whole → List Tid
-everyone setup s = all_of (threads_on_cpu s) setup.cpus ++ (all_of (of_pending setup s) setup.cpus ++ all_of (of_buffer setup s) (length setup.caps))
+everyone setup s =
+    all_of (threads_on_cpu s) setup.cpus
+    ++ (all_of (of_pending setup s) setup.cpus ++ all_of (of_buffer setup s) (length setup.caps))
 
 abbrev pub thread_in : Option Private → Tid → Thread
 thread_in None t = new_thread

@@ -1,9 +1,12 @@
 -- The order of the sections of one buffer: which section of a call may occur when, given the lock's
 -- owner and what it has done.
-use Rattle.std.specs.Prelude.{◌≡◌, ◌≢◌, Bool, true, false, List, [], ◌∷◌, Option, Some, None, if◌then◌else◌}
-use Rattle.event_log.specs.{declared.ids.LockId.{LockId, TheVariants.{Pending, Buffer as AtBuffer}}, History.{same_lock, IsLawful}, Sections.Section}
-use Rattle.{event_log.specs.Sections.block_after, layer_traits.specs.declared.locked.Side.{Side, TheVariants.{Receivers, Senders}}}
-use Rattle.cpu.specs.Table.Blocks.{Buffer, Block, OfBuffer, OfPending, Name, AcqQ, Enter, TryPut, TryTake, Shut, WaitOn, SigRecv, SigSend, RelQ, Pend, TakeAll}
+use Rattle.std.specs.Prelude.{◌≡◌, ◌≢◌, Bool, true, false, List, [], ◌∷◌, Option, Some, None}
+use Rattle.std.specs.Prelude.{if◌then◌else◌}
+use Rattle.event_log.specs.declared.ids.LockId.{LockId, TheVariants.{Pending, Buffer as AtBuffer}}
+use Rattle.event_log.specs.{History.{same_lock, IsLawful}, Sections.{Section, block_after}}
+use Rattle.layer_traits.specs.declared.locked.Side.{Side, TheVariants.{Receivers, Senders}}
+use Rattle.cpu.specs.Table.Blocks.{Buffer, Block, OfBuffer, OfPending, Name, AcqQ, Enter, TryPut}
+use Rattle.cpu.specs.Table.Blocks.{TryTake, Shut, WaitOn, SigRecv, SigSend, RelQ, Pend, TakeAll}
 use Rattle.cpu.specs.Table.{Edits.{edited, may_try}, Setups.{Setup, opening}}
 
 -- what the owner of a buffer's lock has done since it acquired it: nothing, it entered a line, a
@@ -25,7 +28,8 @@ abbrev pub progress_after : Name → Buffer → Progress → Progress
 progress_after (AcqQ t) k g = g
 progress_after (Enter t side) k g = HasEntered side
 progress_after (TryPut t m) k g = if may_try Senders t k then Owes true true else WasRefused Senders
-progress_after (TryTake t) k g = if may_try Receivers t k then Owes true true else WasRefused Receivers
+progress_after (TryTake t) k g =
+    if may_try Receivers t k then Owes true true else WasRefused Receivers
 progress_after (Shut t) k g = Owes true true
 progress_after (WaitOn t side) k g = Begins
 progress_after (SigRecv t) k g = progress_signalled Receivers g
@@ -47,7 +51,9 @@ block_of setup lock past = block_after edited (opening setup) lock past
 abbrev pub progress : Setup → LockId → List (Section Name) → Progress
 progress setup lock [] = Begins
 progress setup lock (s ∷ past) =
-    if same_lock lock s.lock then progress_by s.edit (block_of setup lock past) (progress setup lock past) else progress setup lock past
+    if same_lock lock s.lock
+    then progress_by s.edit (block_of setup lock past) (progress setup lock past)
+    else progress setup lock past
 
 -- a try may occur after its line was entered, and as the first section of an owner that was woken
 abbrev pub MayTry : Side → Progress → Type 0
@@ -81,7 +87,8 @@ MayEditBlock name (Some (OfPending threads)) g = Unit {0}
 MayEditBlock name None g = Unit {0}
 
 abbrev pub KeepsOrderAt : Setup → LockId → Name → List (Section Name) → Type 0
-KeepsOrderAt setup (AtBuffer b) name past = MayEditBlock name (block_of setup (AtBuffer b) past) (progress setup (AtBuffer b) past)
+KeepsOrderAt setup (AtBuffer b) name past =
+    MayEditBlock name (block_of setup (AtBuffer b) past) (progress setup (AtBuffer b) past)
 KeepsOrderAt setup (Pending c) name past = Unit {0}
 
 -- a section keeps the order that its call prescribes

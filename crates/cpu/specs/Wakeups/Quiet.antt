@@ -1,12 +1,20 @@
 -- A quiescent system: no CPU has anything to do, and no thread can make progress. No call of a live
 -- thread can take effect, under any schedule.
-use Rattle.std.specs.Prelude.{◌≡◌, ◌≢◌, ℕ, ◌<◌, ◌≤◌, true, false, [], length, Option, Some, None, slice_get}
-use Rattle.event_log.specs.declared.ids.{CpuId.CpuId, Tid.Tid, BufId.BufId, LockId.TheVariants.{Pending, Buffer as AtBuffer}, TheConstants.THREADS}
-use Rattle.event_log.specs.{declared.entries.Kind.Kind, Messages.Message, Runs.{Group, Sends, Receives, Closes, group_of}, Actions.phase}
-use Rattle.{layer_traits.specs.{declared.steps.Reason.Reason, Polling.Plans.is_in_section}, guest.specs.declared.instructions.Instruction.Instruction}
-use Rattle.guest.specs.{declared.instructions.Instruction.TheVariants.{Set, Add, Sub, Jnz, Send, Recv, Close, Yield as YieldLine, Exit}, State.State}
-use Rattle.{guest.specs.State.message_from, cpu.specs.Table.{Blocks.{Buffer, OfBuffer, OfPending}, Setups.{Setup, Call, Private, thread_at, home_cpu}}}
-use Rattle.cpu.specs.{Table.{Setups.stands_at, Steps.{Whole, IsReached, block_at, halted_at}}, Wakeups.Lost.Allows}
+use Rattle.std.specs.Prelude.{◌≡◌, ◌≢◌, ℕ, ◌<◌, ◌≤◌, true, false, [], length, Option, Some, None}
+use Rattle.std.specs.Prelude.{slice_get}
+use Rattle.event_log.specs.declared.ids.{CpuId.CpuId, Tid.Tid, BufId.BufId}
+use Rattle.event_log.specs.declared.ids.LockId.TheVariants.{Pending, Buffer as AtBuffer}
+use Rattle.event_log.specs.declared.{ids.TheConstants.THREADS, entries.Kind.Kind}
+use Rattle.event_log.specs.{Messages.Message, Runs.{Group, Sends, Receives, Closes, group_of}}
+use Rattle.{event_log.specs.Actions.phase, layer_traits.specs.declared.steps.Reason.Reason}
+use Rattle.layer_traits.specs.Polling.Plans.{is_in_section}
+use Rattle.guest.specs.declared.instructions.Instruction.{Instruction, TheVariants.{Set, Add, Sub}}
+use Rattle.guest.specs.declared.instructions.Instruction.TheVariants.{Jnz, Send, Recv, Close}
+use Rattle.guest.specs.declared.instructions.Instruction.TheVariants.{Yield as YieldLine, Exit}
+use Rattle.{guest.specs.State.{State, message_from}, cpu.specs.Table.Blocks.{Buffer, OfBuffer}}
+use Rattle.cpu.specs.Table.{Blocks.OfPending, Setups.{Setup, Call, Private, thread_at, home_cpu}}
+use Rattle.cpu.specs.Table.{Setups.stands_at, Steps.{Whole, IsReached, block_at, halted_at}}
+use Rattle.cpu.specs.Wakeups.Lost.{Allows}
 
 -- no more threads than a machine may have
 abbrev pub AreFew : Setup → Type 0
@@ -14,19 +22,23 @@ AreFew setup = length setup.homes ≤ THREADS
 
 -- and the home CPU of each is one of this machine
 abbrev pub HomesExist : Setup → Type 0
-HomesExist setup = AreFew setup × ((t : Tid) → t.0 < length setup.homes → (home_cpu setup t).0 < setup.cpus)
+HomesExist setup =
+    AreFew setup × ((t : Tid) → t.0 < length setup.homes → (home_cpu setup t).0 < setup.cpus)
 
 -- a halted CPU is quiet if each of its threads has ended, any other if no thread runs on it, is
 -- ready or is in its hand
 abbrev pub IsQuietBy : Setup → CpuId → Private → Option Reason → Type 0
-IsQuietBy setup c p (Some reason) = (u : Tid) → home_cpu setup u ≡ c → u.0 < length setup.homes → (thread_at p u).ended ≡ true
+IsQuietBy setup c p (Some reason) =
+    (u : Tid) → home_cpu setup u ≡ c → u.0 < length setup.homes → (thread_at p u).ended ≡ true
 IsQuietBy setup c p None = (p.current ≡ None) × (p.ready ≡ []) × (p.hand ≡ None)
 
 -- no section is under way, each CPU is quiet, and no thread is pending
 pub record IsQuietTable (setup : Setup) (s : Whole) : Type 0 where
   pub outside : (c : CpuId) → c.0 < setup.cpus → is_in_section (phase c s.log) ≡ false
-  pub cpus : (c : CpuId) (p : Private) → slice_get s.cpus c.0 ≡ Some p → IsQuietBy setup c p (halted_at setup c p)
-  pub pending : (c : CpuId) → c.0 < setup.cpus → block_at setup (Pending c) s.log ≡ Some (OfPending [])
+  pub cpus : (c : CpuId) (p : Private) → slice_get s.cpus c.0 ≡ Some p
+      → IsQuietBy setup c p (halted_at setup c p)
+  pub pending : (c : CpuId) → c.0 < setup.cpus
+      → block_at setup (Pending c) s.log ≡ Some (OfPending [])
 
 -- what a thread at this instruction asks for next: a send, a receive or a close of this buffer,
 -- with this message if it sends
@@ -43,13 +55,16 @@ IsNextEffect Exit s asks d m = ⊥
 
 -- a call that has not taken effect, is what its thread asks for next, and whose buffer allows no
 -- effect of it: therefore it is no close, and its buffer is not closed
-pub record IsStuckCall (setup : Setup) (s : Whole) (p : Private) (u : Tid) (call : Call) : Type 0 where
+pub record IsStuckCall (setup : Setup) (s : Whole) (p : Private) (u : Tid) (call : Call) : Type
+    0 where
   pub unfinished : call.effect ≡ None
-  pub next : IsNextEffect (stands_at setup p u) (thread_at p u).guest call.asks call.buffer call.message
+  pub next : IsNextEffect (stands_at setup p u) (thread_at p u).guest call.asks call.buffer
+      call.message
   pub refused : (k : Buffer) (m : Message) (e : Kind) → group_of e ≡ call.asks
       → block_at setup (AtBuffer call.buffer) s.log ≡ Some (OfBuffer k) → Allows k e m → ⊥
   pub no_close : call.asks ≢ Closes
-  pub stays_open : (k : Buffer) → block_at setup (AtBuffer call.buffer) s.log ≡ Some (OfBuffer k) → k.closed ≡ false
+  pub stays_open : (k : Buffer) → block_at setup (AtBuffer call.buffer) s.log ≡ Some (OfBuffer k)
+      → k.closed ≡ false
 
 -- a thread that has not ended, whose home is a CPU with this private state
 pub record IsLive (setup : Setup) (s : Whole) (p : Private) (u : Tid) : Type 0 where
@@ -60,12 +75,17 @@ pub record IsLive (setup : Setup) (s : Whole) (p : Private) (u : Tid) : Type 0 w
 -- no thread owns a lock or sleeps at one; each live thread is inside a call that its buffer does
 -- not allow; and no next effect of a live thread is allowed
 pub record IsStuck (setup : Setup) (s : Whole) : Type 0 where
-  pub unowned : (b : BufId) (k : Buffer) → block_at setup (AtBuffer b) s.log ≡ Some (OfBuffer k) → (k.busy ≡ None) × (k.sleepers ≡ [])
-  pub threads : (p : Private) (u : Tid) → IsLive setup s p u → (call : Call) × ((thread_at p u).call ≡ Some call) × IsStuckCall setup s p u call
-  pub effects : (p : Private) (u : Tid) → IsLive setup s p u → (e : Kind) (asks : Group) (b : BufId) (m : Message)
+  pub unowned : (b : BufId) (k : Buffer) → block_at setup (AtBuffer b) s.log ≡ Some (OfBuffer k)
+      → (k.busy ≡ None) × (k.sleepers ≡ [])
+  pub threads : (p : Private) (u : Tid) → IsLive setup s p u
+      → (call : Call) × ((thread_at p u).call ≡ Some call) × IsStuckCall setup s p u call
+  pub effects : (p : Private) (u : Tid) → IsLive setup s p u
+      → (e : Kind) (asks : Group) (b : BufId) (m : Message)
       → group_of e ≡ asks → IsNextEffect (stands_at setup p u) (thread_at p u).guest asks b m
       → (k : Buffer) → block_at setup (AtBuffer b) s.log ≡ Some (OfBuffer k) → Allows k e m → ⊥
 
 -- in a quiescent state that a system reaches, no thread can make progress
 abbrev pub QuietIsStuck : Type 0
-QuietIsStuck = (setup : Setup) (room : ℕ) (s : Whole) → HomesExist setup → IsReached setup room s → IsQuietTable setup s → IsStuck setup s
+QuietIsStuck =
+    (setup : Setup) (room : ℕ) (s : Whole) → HomesExist setup → IsReached setup room s
+    → IsQuietTable setup s → IsStuck setup s

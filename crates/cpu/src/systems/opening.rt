@@ -30,11 +30,15 @@ impl<I: CallLayer<IpcLaw>> Cpu<I> {
         limit: usize,
     ) -> Result<Cpu<I>, NoMemory>
         requires { length homes.now ≤ THREADS }
-        ensures booted { IfOk result (λ c. IsBooted number guests.items limit c.number c.guests.items c.trace.items c.limit (vec_capacity c.trace)) }
+        ensures booted { IfOk result
+            (λ c. IsBooted number guests.items limit c.number c.guests.items c.trace.items c.limit
+            (vec_capacity c.trace)) }
         ensures cpu { IfOk result (λ c. I.cpu_of c.part ≡ number) }
         ensures under_way { IfOk result (λ c. I.under_way c.part ≡ None) }
         ensures own { IfOk result (λ c. I.own c.part ≡ buffering_at_start homes.now number) }
-        ensures fits { IfOk result (λ c. (m : I.Machine) → I.IsFresh m homes.now number → length (caps_in (I.opening m)) ≡ buffers → I.Fits c.part m) }
+        ensures fits { IfOk result
+            (λ c. (m : I.Machine) → I.IsFresh m homes.now number
+            → length (caps_in (I.opening m)) ≡ buffers → I.Fits c.part m) }
     {
         let trace = Vec::with_capacity(alloc, limit)?;
         Ok(Cpu {
@@ -68,8 +72,10 @@ fn cpus_at_boot<I: CallLayer<IpcLaw> + Drop>(
     requires few { length tables.items ≤ CPUS }
     ensures count { IfOk result (λ cpus. length cpus.items ≡ length tables.items) }
     ensures booted { IfOk result (λ cpus. (k : ℕ) (x : _) → slice_get cpus.items k ≡ Some x
-        → IsBootedAs (λ p (m : I.Machine). I.Fits p m) (λ m number. I.IsFresh m homes.now number) (λ m. length (caps_in (I.opening m))) buffers homes.now k
-        (slice_index_or (map (λ table. table.items) tables.items) k []) limit x.part (I.cpu_of x.part) (I.own x.part)
+        → IsBootedAs (λ p (m : I.Machine). I.Fits p m) (λ m number. I.IsFresh m homes.now number)
+        (λ m. length (caps_in (I.opening m))) buffers homes.now k
+        (slice_index_or (map (λ table. table.items) tables.items) k []) limit x.part
+        (I.cpu_of x.part) (I.own x.part)
         (I.under_way x.part) x.number x.guests.items x.trace.items x.limit (vec_capacity x.trace)) }
 {
     let mut tables = tables;
@@ -116,13 +122,16 @@ where
         room: usize,
     ) -> Result<System<I>, NoMemory>
         requires openable { AreOpenable (length tables.items) caps.now homes.now }
-        requires tables { AreTables homes.now (length caps.now) (map (λ table. table.items) tables.items) }
+        requires tables { AreTables homes.now (length caps.now)
+            (map (λ table. table.items) tables.items) }
         ensures caps { IfOk result (λ s. s.caps ≡ caps.now) }
         ensures homes { IfOk result (λ s. s.homes ≡ homes.now) }
         ensures room { IfOk result (λ s. s.room ≡ room) }
         ensures taken { IfOk result (λ s. s.taken ≡ 0) }
-        ensures guests { IfOk result (λ s. map (λ p. p.guests) s.cpus ≡ map (λ table. table.items) tables.items) }
-        ensures limits { IfOk result (λ s. map (λ p. p.limit) s.cpus ≡ map (λ table. limit) tables.items) }
+        ensures guests { IfOk result
+            (λ s. map (λ p. p.guests) s.cpus ≡ map (λ table. table.items) tables.items) }
+        ensures limits { IfOk result
+            (λ s. map (λ p. p.limit) s.cpus ≡ map (λ table. limit) tables.items) }
         // It is in the step table's state at boot.
         ensures boots { IfOk result (λ s. I.IsStepwise → BootsByTable s) }
         ensures sound { IfOk result (λ s. I.IsStepwise → SoundByTable s) }
@@ -143,15 +152,23 @@ where
     /// Returns the system of a machine and its CPUs, before its first step.
     fn assembled(machine: I::Machine, cpus: Vec<Cpu<I>>, threads: usize, room: u64) -> System<I>
         requires { IsSystem (λ c. I.Fits c.part machine × (I.cpu_of c.part ≡ c.number)
-            × IsCpu (homes_in (I.opening machine)) (length (caps_in (I.opening machine))) (I.seen machine) (threads_in (I.own c.part))
-            (I.own c.part).call_states (I.under_way c.part) c.number c.guests.items c.trace.items c.limit (vec_capacity c.trace)
-            × (I.IsStepwise → IsTabled (homes_in (I.opening machine)) (caps_in (I.opening machine)) c.number (I.own c.part) (I.under_way c.part)
+            × IsCpu (homes_in (I.opening machine)) (length (caps_in (I.opening machine)))
+            (I.seen machine) (threads_in (I.own c.part))
+            (I.own c.part).call_states (I.under_way c.part) c.number c.guests.items c.trace.items
+            c.limit (vec_capacity c.trace)
+            × (I.IsStepwise
+            → IsTabled (homes_in (I.opening machine)) (caps_in (I.opening machine)) c.number
+            (I.own c.part) (I.under_way c.part)
             c.guests.items (I.opening machine)))
-            (λ c. c.number) (λ c. I.ActsFor machine c) (λ c. I.MayHold machine c) I.IsStepwise (I.acts machine) cpus.items (homes_in (I.opening machine))
-            (I.seen machine) room 0 (I.room machine) ((threads ≡ length (homes_in (I.opening machine))) × (I.IsStepwise → BootsByTable
-            (shown_of (caps_in (I.opening machine)) (homes_in (I.opening machine)) (I.seen machine) (I.wait_lists machine) (I.owner machine)
+            (λ c. c.number) (λ c. I.ActsFor machine c) (λ c. I.MayHold machine c) I.IsStepwise
+            (I.acts machine) cpus.items (homes_in (I.opening machine))
+            (I.seen machine) room 0 (I.room machine)
+            ((threads ≡ length (homes_in (I.opening machine))) × (I.IsStepwise → BootsByTable
+            (shown_of (caps_in (I.opening machine)) (homes_in (I.opening machine)) (I.seen machine)
+            (I.wait_lists machine) (I.owner machine)
             (I.moves machine) (I.acts machine)
-            (map (λ c. cpu_shown (threads_in (I.own c.part)) c.guests.items c.trace.items c.limit (I.is_inside c.part) (I.own c.part)) cpus.items) room 0))) }
+            (map (λ c. cpu_shown (threads_in (I.own c.part)) c.guests.items c.trace.items c.limit
+            (I.is_inside c.part) (I.own c.part)) cpus.items) room 0))) }
         ensures caps { result.caps ≡ caps_in (I.opening machine) }
         ensures homes { result.homes ≡ homes_in (I.opening machine) }
         ensures room { result.room ≡ room }

@@ -31,7 +31,8 @@ fn guest_at(
     thread: Tid,
 ) -> Result<Option<Guest>, NoMemory>
     requires { thread.0 < length boot.now.tasks }
-    ensures { IfOk result (λ guest. guest ≡ slice_index_or (guests_for boot.now number.0) thread.0 None) }
+    ensures { IfOk result (λ guest. guest
+        ≡ slice_index_or (guests_for boot.now number.0) thread.0 None) }
 {
     let home = boot.home(thread);
     if home.0 != number.0 {
@@ -57,7 +58,8 @@ pub fn guests_of(alloc: Global, boot: &Boot, number: CpuId) -> Result<Vec<Option
 
 /// Returns the guests of each CPU of a plan.
 fn tables_of(alloc: Global, boot: &Boot) -> Result<Vec<Vec<Option<Guest>>>, NoMemory>
-    ensures { IfOk result (λ tables. map (λ table. table.items) tables.items ≡ tables_for boot.now) }
+    ensures { IfOk result (λ tables. map (λ table. table.items) tables.items
+        ≡ tables_for boot.now) }
 {
     let mut tables = Vec::with_capacity(alloc, usize::from(boot.cpus()))?;
     for number in 0..boot.cpus() {
@@ -83,7 +85,8 @@ where
         ensures caps { IfOk result (λ s. s.caps ≡ boot.now.caps) }
         ensures homes { IfOk result (λ s. s.homes ≡ homes_for boot.now) }
         ensures guests { IfOk result (λ s. map (λ p. p.guests) s.cpus ≡ tables_for boot.now) }
-        ensures limits { IfOk result (λ s. map (λ p. p.limit) s.cpus ≡ replicate boot.now.cpus boot.now.trace) }
+        ensures limits { IfOk result
+            (λ s. map (λ p. p.limit) s.cpus ≡ replicate boot.now.cpus boot.now.trace) }
         ensures room { IfOk result (λ s. s.room ≡ room) }
         ensures taken { IfOk result (λ s. s.taken ≡ 0) }
         ensures plan { IsPlan boot.now }

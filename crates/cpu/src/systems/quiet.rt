@@ -22,7 +22,8 @@ where
     pub fn is_quiet(&self) -> bool
         ensures is { result ≡ true ↔ IsQuiet self.now }
         // The system is quiet exactly if the step table's state is.
-        ensures table { I.IsStepwise → (setup : Setup) → IsSetupFor setup self.now → (result ≡ true ↔ IsQuietTable setup (whole_of self.now)) }
+        ensures table { I.IsStepwise → (setup : Setup) → IsSetupFor setup self.now
+            → (result ≡ true ↔ IsQuietTable setup (whole_of self.now)) }
         // Then no live thread has a next call that its buffer allows, no thread owns a lock, and
         // none sleeps at one.
         ensures still { I.IsStepwise → result ≡ true → IsStill self.now }
@@ -43,7 +44,8 @@ where
 
     /// Returns whether each CPU is calm.
     fn are_calm(&self) -> bool
-        ensures { result ≡ true ↔ ((c : CpuId) → c.0 < length self.now.cpus → calm_in c self.now ≡ true) }
+        ensures { result ≡ true
+            ↔ ((c : CpuId) → c.0 < length self.now.cpus → calm_in c self.now ≡ true) }
     {
         for number in 0..self.cpus.len() {
             if !self.is_calm(CpuId(number as u8)) {
@@ -70,7 +72,8 @@ where
     /// Returns whether `thread`, which must exist, is in a pending queue.
     fn pends(&self, thread: Tid) -> bool
         requires { thread.0 < length self.now.homes }
-        ensures { result ≡ true ↔ ((d : CpuId) × (where_is self.now.homes self.now.moves thread ≡ IsPending d)) }
+        ensures { result ≡ true
+            ↔ ((d : CpuId) × (where_is self.now.homes self.now.moves thread ≡ IsPending d)) }
     {
         self.holds();
         matches!(self.place(thread), Place::Pending(_))

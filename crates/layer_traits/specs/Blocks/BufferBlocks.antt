@@ -1,11 +1,16 @@
 -- A buffer's block: its two queues of threads, its items, whether it is closed, and its counters;
 -- and what the edits make of it.
-use Rattle.std.specs.Prelude.{ℕ, ◌+◌, ◌%◌, ◌^◌, Bool, true, false, not, ◌&&◌, ◌||◌, List, [], ◌∷◌, ◌++◌, length, nat_lt, Option, None, if◌then◌else◌}
-use Rattle.event_log.specs.declared.{entries.Kind.{Kind, TheVariants.{Send, Recv, SendClosed, RecvClosed}}, ids.{Tid.Tid, TheConstants.THREADS}}
-use Rattle.{event_log.specs.Messages.{Message, no_message}, layer_traits.specs.declared.locked.Side.{Side, TheVariants.{Receivers, Senders}}}
-use Rattle.layer_traits.specs.declared.buffer_edits.{BufferEdit.{BufferEdit, TheVariants.{Enter, TryPut, TryTake, Shut}}, BufferOut.BufferOut}
-use Rattle.{layer_traits.specs.declared.buffer_edits.BufferOut.TheVariants.{Entered, NotYet, Done, WasShut}, thread_blocks.specs.Queues.{same_tid, is_in}}
-use Rattle.thread_blocks.specs.Queues.{first, rest}
+use Rattle.std.specs.Prelude.{ℕ, ◌+◌, ◌%◌, ◌^◌, Bool, true, false, not, ◌&&◌, ◌||◌, List, [], ◌∷◌}
+use Rattle.std.specs.Prelude.{◌++◌, length, nat_lt, Option, None, if◌then◌else◌}
+use Rattle.event_log.specs.declared.entries.Kind.{Kind, TheVariants.{Send, Recv, SendClosed}}
+use Rattle.event_log.specs.declared.{entries.Kind.TheVariants.RecvClosed, ids.Tid.Tid}
+use Rattle.event_log.specs.{declared.ids.TheConstants.THREADS, Messages.{Message, no_message}}
+use Rattle.layer_traits.specs.declared.locked.Side.{Side, TheVariants.{Receivers, Senders}}
+use Rattle.layer_traits.specs.declared.buffer_edits.BufferEdit.{BufferEdit, TheVariants.Enter}
+use Rattle.layer_traits.specs.declared.buffer_edits.BufferEdit.TheVariants.{TryPut, TryTake, Shut}
+use Rattle.layer_traits.specs.declared.buffer_edits.BufferOut.{BufferOut, TheVariants.Entered}
+use Rattle.layer_traits.specs.declared.buffer_edits.BufferOut.TheVariants.{NotYet, Done, WasShut}
+use Rattle.thread_blocks.specs.Queues.{same_tid, is_in, first, rest}
 
 -- what a buffer's block holds: the queue of each side, first in front; the items, first in front;
 -- the capacity; and whether it is closed. It also counts, modulo 2^64, its effects, the threads
@@ -76,7 +81,8 @@ other_items (m ∷ items) = items
 
 -- the thread has entered the queue of a side
 abbrev pub entered : Side → Tid → BufferState → BufferState
-entered Receivers t x = record x { receive_line = x.receive_line ++ t ∷ []; receives = counted x.receives }
+entered Receivers t x =
+    record x { receive_line = x.receive_line ++ t ∷ []; receives = counted x.receives }
 entered Senders t x = record x { send_line = x.send_line ++ t ∷ []; sends = counted x.sends }
 
 -- the items after a put of this message: a closed buffer takes none
@@ -86,12 +92,22 @@ items_put false m items = items ++ m ∷ []
 
 -- the first sender has put this message, or its result is that the buffer is closed
 abbrev pub put_in : Message → BufferState → BufferState
-put_in m x = record x { send_line = rest x.send_line; items = items_put x.closed m x.items; effects = counted x.effects }
+put_in m x =
+    record x {
+      send_line = rest x.send_line;
+      items = items_put x.closed m x.items;
+      effects = counted x.effects;
+    }
 
 -- the first receiver has taken the first message, or its result is that the buffer is closed, if
 -- there is none
 abbrev pub taken_out : BufferState → BufferState
-taken_out x = record x { receive_line = rest x.receive_line; items = other_items x.items; effects = counted x.effects }
+taken_out x =
+    record x {
+      receive_line = rest x.receive_line;
+      items = other_items x.items;
+      effects = counted x.effects;
+    }
 
 -- the buffer has been closed
 abbrev pub shut : BufferState → BufferState
@@ -115,8 +131,11 @@ buffer_edited (Shut t) x = shut x
 -- the numbers of the close
 abbrev pub buffer_answer : BufferEdit → BufferState → BufferOut
 buffer_answer (Enter t side) x = Entered (drawn_of side x)
-buffer_answer (TryPut t m) x = if is_next Senders t x then Done (effect_kind Senders x) x.effects m else NotYet
-buffer_answer (TryTake t) x = if is_next Receivers t x then Done (effect_kind Receivers x) x.effects (first_item x.items) else NotYet
+buffer_answer (TryPut t m) x =
+    if is_next Senders t x then Done (effect_kind Senders x) x.effects m else NotYet
+buffer_answer (TryTake t) x =
+    if is_next Receivers t x then Done (effect_kind Receivers x) x.effects (first_item x.items)
+    else NotYet
 buffer_answer (Shut t) x = WasShut x.effects x.closes
 
 -- a buffer at the start

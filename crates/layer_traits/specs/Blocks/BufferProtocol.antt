@@ -1,13 +1,21 @@
 -- Which section of a buffer which CPU may do after which sections. A thread that enters is in no
 -- queue of the buffer. A thread that tries is in the queue of its side. A thread that waits failed
 -- its try in its section before. The owner of the lock may close.
-use Rattle.std.specs.Prelude.{◌≡◌, Bool, true, false, not, ◌&&◌, List, [], ◌∷◌, Option, Some, None, if◌then◌else◌}
-use Rattle.event_log.specs.{declared.ids.{LockId.LockId, Tid.Tid}, History.same_lock, Sections.Section}
-use Rattle.layer_traits.specs.declared.locked.{QEdit.TheVariants.{Acquire, Inside, Release}, Side.{Side, TheVariants.{Receivers, Senders}}}
-use Rattle.layer_traits.specs.declared.conditions.{CvEdit.{TheVariants.{Edit, SignalFront}, CvEdit}, CvLeave.{CvLeave, TheVariants.{Leave, Wait}}, CvOut.CvOut}
-use Rattle.layer_traits.specs.declared.buffer_edits.{BufferOut.BufferOut, BufferEdit.{BufferEdit, TheVariants.{Enter, TryPut, TryTake, Shut}}}
-use Rattle.layer_traits.specs.Layers.{Conditions.{CvCall, MonitorRules, cv_rules}, QLocking.{LockRules, LockState, lock_after, lock_caller}}
-use Rattle.layer_traits.specs.Blocks.BufferBlocks.{BufferState, buffer_answer, buffer_edited, thread_of_edit, front_ready, is_next, line_of}
+use Rattle.std.specs.Prelude.{◌≡◌, Bool, true, false, not, ◌&&◌, List, [], ◌∷◌, Option, Some, None}
+use Rattle.std.specs.Prelude.{if◌then◌else◌}
+use Rattle.event_log.specs.{declared.ids.{LockId.LockId, Tid.Tid}, History.same_lock}
+use Rattle.event_log.specs.Sections.{Section}
+use Rattle.layer_traits.specs.declared.locked.QEdit.TheVariants.{Acquire, Inside, Release}
+use Rattle.layer_traits.specs.declared.locked.Side.{Side, TheVariants.{Receivers, Senders}}
+use Rattle.layer_traits.specs.declared.conditions.CvEdit.{TheVariants.{Edit, SignalFront}, CvEdit}
+use Rattle.layer_traits.specs.declared.conditions.CvLeave.{CvLeave, TheVariants.{Leave, Wait}}
+use Rattle.layer_traits.specs.declared.{conditions.CvOut.CvOut, buffer_edits.BufferOut.BufferOut}
+use Rattle.layer_traits.specs.declared.buffer_edits.BufferEdit.{BufferEdit, TheVariants.Enter}
+use Rattle.layer_traits.specs.declared.buffer_edits.BufferEdit.TheVariants.{TryPut, TryTake, Shut}
+use Rattle.layer_traits.specs.Layers.Conditions.{CvCall, MonitorRules, cv_rules}
+use Rattle.layer_traits.specs.Layers.QLocking.{LockRules, LockState, lock_after, lock_caller}
+use Rattle.layer_traits.specs.Blocks.BufferBlocks.{BufferState, buffer_answer, buffer_edited}
+use Rattle.layer_traits.specs.Blocks.BufferBlocks.{thread_of_edit, front_ready, is_next, line_of}
 use Rattle.thread_blocks.specs.Queues.{same_tid, is_in}
 
 -- a section of a buffer
@@ -33,7 +41,8 @@ abbrev pub buffer_rules : LockRules (CvEdit BufferEdit) CvLeave BufferState (CvO
 buffer_rules = cv_rules plain_rules
 
 -- a lock after these sections
-abbrev pub buffer_lock_at : (LockId → Option BufferLock) → List BufferSection → LockId → Option BufferLock
+abbrev pub buffer_lock_at : (LockId → Option BufferLock) → List BufferSection → LockId
+    → Option BufferLock
 buffer_lock_at opening past lock = lock_after buffer_rules opening lock past
 
 -- whether a thread is in the queue of this side of a buffer
@@ -61,27 +70,34 @@ is_try side (Inside (SignalFront t at)) = false
 is_try side (Release leave) = false
 
 -- whether the thread's newest section is a try of this side at this lock that failed
-abbrev pub has_tried_in_vain : (LockId → Option BufferLock) → LockId → Side → Tid → List BufferSection → Bool
+abbrev pub has_tried_in_vain : (LockId → Option BufferLock) → LockId → Side → Tid
+    → List BufferSection → Bool
 has_tried_in_vain opening lock side t [] = false
 has_tried_in_vain opening lock side t (s ∷ past) =
     if same_tid (lock_caller buffer_rules s.edit) t
-    then is_try side s.edit && same_lock lock s.lock && not (is_next_at side t (buffer_lock_at opening past lock))
+    then is_try side s.edit && same_lock lock s.lock
+    && not (is_next_at side t (buffer_lock_at opening past lock))
     else has_tried_in_vain opening lock side t past
 
 -- a call is due: what its caller must have done before
-abbrev pub IsDue : (LockId → Option BufferLock) → List BufferSection → LockId → CvCall BufferEdit → Type 0
+abbrev pub IsDue : (LockId → Option BufferLock) → List BufferSection → LockId → CvCall BufferEdit
+    → Type 0
 IsDue opening past lock (Acquire t) = Unit {0}
 IsDue opening past lock (Inside (Edit (Enter t side))) =
-    (is_in_line Senders t (buffer_lock_at opening past lock) ≡ false) × (is_in_line Receivers t (buffer_lock_at opening past lock) ≡ false)
-IsDue opening past lock (Inside (Edit (TryPut t m))) = is_in_line Senders t (buffer_lock_at opening past lock) ≡ true
-IsDue opening past lock (Inside (Edit (TryTake t))) = is_in_line Receivers t (buffer_lock_at opening past lock) ≡ true
+    (is_in_line Senders t (buffer_lock_at opening past lock) ≡ false)
+    × (is_in_line Receivers t (buffer_lock_at opening past lock) ≡ false)
+IsDue opening past lock (Inside (Edit (TryPut t m))) =
+    is_in_line Senders t (buffer_lock_at opening past lock) ≡ true
+IsDue opening past lock (Inside (Edit (TryTake t))) =
+    is_in_line Receivers t (buffer_lock_at opening past lock) ≡ true
 IsDue opening past lock (Inside (Edit (Shut t))) = Unit {0}
 IsDue opening past lock (Inside (SignalFront t side)) = Unit {0}
 IsDue opening past lock (Release (Leave t)) = Unit {0}
 IsDue opening past lock (Release (Wait t side)) = has_tried_in_vain opening lock side t past ≡ true
 
 -- a section keeps the protocol of buffers
-abbrev pub buffer_allowed : (LockId → Option BufferLock) → List BufferSection → BufferSection → Type 0
+abbrev pub buffer_allowed : (LockId → Option BufferLock) → List BufferSection → BufferSection
+    → Type 0
 buffer_allowed opening past s = IsDue opening past s.lock s.edit
 
 -- what the edits of buffers mean

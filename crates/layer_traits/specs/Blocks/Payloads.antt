@@ -1,12 +1,22 @@
 -- Abstraction functions: what an edit and a result mean, with the payload beside them: the parcel
 -- that is put or brought, and the threads that were taken.
-use Rattle.{std.specs.Prelude.{Option, option_map}, layer_traits.specs.declared.buffer_edits.{BareBufferEdit.BareBufferEdit, BareBufferOut.BareBufferOut}}
-use Rattle.layer_traits.specs.declared.buffer_edits.{BufferEdit.{BufferEdit, TheVariants.{Enter, TryPut, TryTake, Shut}}, BufferOut.BufferOut}
-use Rattle.layer_traits.specs.declared.{conditions.{CvEdit.{CvEdit, TheVariants.{Edit, SignalFront}}, CvOut.CvOut}, locked.QEdit.{QEdit, TheVariants.Acquire}}
-use Rattle.layer_traits.specs.declared.{locked.{QEdit.TheVariants.{Inside, Release}, QOut.QOut}, queue_edits.QueueEdit.QueueEdit}
-use Rattle.layer_traits.specs.declared.{queue_edits.{BareQueueAnswer.BareQueueAnswer, QueueAnswer.QueueAnswer}, queues.QueueCall.{QueueCall, TheVariants.Push}}
-use Rattle.layer_traits.specs.declared.{queues.QueueCall.TheVariants.{TakeAll, OnBuffer}, scheds.{SchedAnswer.SchedAnswer, SchedCall.SchedCall}}
-use Rattle.layer_traits.specs.declared.{sleeps.Outcome.Outcome, payloads.{Parcel.Parcel, Payload.Payload}}
+use Rattle.std.specs.Prelude.{Option, option_map}
+use Rattle.layer_traits.specs.declared.buffer_edits.BareBufferEdit.{BareBufferEdit}
+use Rattle.layer_traits.specs.declared.buffer_edits.BareBufferOut.{BareBufferOut}
+use Rattle.layer_traits.specs.declared.buffer_edits.BufferEdit.{BufferEdit, TheVariants.Enter}
+use Rattle.layer_traits.specs.declared.buffer_edits.BufferEdit.TheVariants.{TryPut, TryTake, Shut}
+use Rattle.layer_traits.specs.declared.{buffer_edits.BufferOut.BufferOut, conditions.CvEdit.CvEdit}
+use Rattle.layer_traits.specs.declared.conditions.CvEdit.TheVariants.{Edit, SignalFront}
+use Rattle.layer_traits.specs.declared.{conditions.CvOut.CvOut, locked.QEdit.QEdit}
+use Rattle.layer_traits.specs.declared.locked.QEdit.TheVariants.{Acquire, Inside, Release}
+use Rattle.layer_traits.specs.declared.{locked.QOut.QOut, queue_edits.QueueEdit.QueueEdit}
+use Rattle.layer_traits.specs.declared.queue_edits.BareQueueAnswer.{BareQueueAnswer}
+use Rattle.layer_traits.specs.declared.queue_edits.QueueAnswer.{QueueAnswer}
+use Rattle.layer_traits.specs.declared.queues.QueueCall.{QueueCall, TheVariants.{Push, TakeAll}}
+use Rattle.layer_traits.specs.declared.queues.QueueCall.TheVariants.{OnBuffer}
+use Rattle.layer_traits.specs.declared.scheds.{SchedAnswer.SchedAnswer, SchedCall.SchedCall}
+use Rattle.layer_traits.specs.declared.{sleeps.Outcome.Outcome, payloads.Parcel.Parcel}
+use Rattle.layer_traits.specs.declared.payloads.Payload.{Payload}
 use Rattle.layer_traits.specs.declared.buffer_edits.BareBufferEdit.TheVariants as bare
 use Rattle.layer_traits.specs.declared.buffer_edits.BareBufferOut.TheVariants as brought
 use Rattle.layer_traits.specs.declared.buffer_edits.BufferOut.TheVariants as told
@@ -31,7 +41,8 @@ queue_meant meant (edit.Above e) payload = edit.Above (meant e payload)
 
 -- the result of shared queues that a passed-back form means: the threads that were taken are in the
 -- payload
-abbrev pub queue_told : {B O : Type 0} → (B → Payload → O) → BareQueueAnswer B → Payload → QueueAnswer O
+abbrev pub queue_told : {B O : Type 0} → (B → Payload → O) → BareQueueAnswer B → Payload
+    → QueueAnswer O
 queue_told told bare_queue.Done payload = queue.Done
 queue_told told bare_queue.Taken payload = queue.Taken payload.taken
 queue_told told (bare_queue.Answer out) payload = queue.Answer (told out payload)
@@ -54,7 +65,8 @@ sched_told told (sched.Answer out) payload = sched.Answer (told out payload)
 
 -- of the result of a section of a sleeping layer
 abbrev pub outcome_told : {B O P : Type 0} → (B → P → O) → Outcome B → P → Outcome O
-outcome_told told outcome payload = record { out = told outcome.out payload; slept = outcome.slept; woke = outcome.woke }
+outcome_told told outcome payload =
+    record { out = told outcome.out payload; slept = outcome.slept; woke = outcome.woke }
 
 -- of a call on a queuing lock: only an edit inside puts a parcel
 abbrev pub lock_meant : {H F R : Type 0} → (H → Parcel → F) → QEdit H R → Parcel → QEdit F R

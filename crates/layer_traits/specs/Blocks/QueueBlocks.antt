@@ -1,8 +1,11 @@
 -- The blocks of locks that guard queues of threads: nested, so that the homes, the pending queues
 -- and the blocks above them are all read from one opening.
 use Rattle.std.specs.Prelude.{◌≡◌, ◌≤◌, List, [], length, Option, Some, None, IsSome}
-use Rattle.event_log.specs.declared.ids.{CpuId.CpuId, LockId.{LockId, TheVariants.{Pending, Buffer}}, Tid.Tid, TheConstants.THREADS}
-use Rattle.layer_traits.specs.{declared.queue_edits.QueueBlock.{QueueBlock, TheVariants.{Queue, Above}}, Threads.Places.home_of}
+use Rattle.event_log.specs.declared.ids.{CpuId.CpuId, LockId.{LockId, TheVariants.Pending}}
+use Rattle.event_log.specs.declared.ids.{LockId.TheVariants.Buffer, Tid.Tid, TheConstants.THREADS}
+use Rattle.layer_traits.specs.declared.queue_edits.QueueBlock.{QueueBlock, TheVariants.Queue}
+use Rattle.layer_traits.specs.declared.queue_edits.QueueBlock.TheVariants.{Above}
+use Rattle.layer_traits.specs.Threads.Places.{home_of}
 
 -- the block of the layer above, if it is one
 abbrev pub above_of : {B : Type 0} → Option (QueueBlock B) → Option B
@@ -42,5 +45,6 @@ StartsAs (Buffer b) (Some (Above block)) = Unit {0}
 -- there are no more homes than threads
 pub record StartsWell {B : Type 0} (opening : LockId → Option (QueueBlock B)) : Type 0 where
   pub kinds : (lock : LockId) → StartsAs lock (opening lock)
-  pub queues : (t : Tid) (home : CpuId) → home_of (homes_in opening) t ≡ Some home → IsSome (opening (Pending home))
+  pub queues : (t : Tid) (home : CpuId) → home_of (homes_in opening) t ≡ Some home
+      → IsSome (opening (Pending home))
   pub room : length (homes_in opening) ≤ THREADS

@@ -1,10 +1,14 @@
 -- What the edits of shared queues mean as edits of locks' blocks, and which sections of them are
 -- allowed.
 use Rattle.std.specs.{Prelude.{◌≡◌, List, [], Option, Some, None, map}, List.AllByRecursion}
-use Rattle.{event_log.specs.{declared.ids.LockId.LockId, Sections.Section}, layer_traits.specs.declared.queue_edits.QueueBlock.QueueBlock}
-use Rattle.layer_traits.specs.declared.queue_edits.{QueueEdit.{QueueEdit, TheVariants.{Push, TakeAll, Above}}, QueueAnswer.{QueueAnswer, TheVariants.Done}}
-use Rattle.layer_traits.specs.{declared.queue_edits.QueueAnswer.TheVariants.{Taken, Answer}, Threads.MoveRules.MoveRules, Protocols.Protocol.Rules}
-use Rattle.layer_traits.specs.Layers.{Queues.{kernel, QueueAllowed, event_of, lock_of, call_at}, Sleeping.joined}
+use Rattle.event_log.specs.{declared.ids.LockId.LockId, Sections.Section}
+use Rattle.layer_traits.specs.declared.queue_edits.{QueueBlock.QueueBlock, QueueEdit.QueueEdit}
+use Rattle.layer_traits.specs.declared.queue_edits.QueueEdit.TheVariants.{Push, TakeAll, Above}
+use Rattle.layer_traits.specs.declared.queue_edits.QueueAnswer.{QueueAnswer, TheVariants.Done}
+use Rattle.layer_traits.specs.declared.queue_edits.QueueAnswer.TheVariants.{Taken, Answer}
+use Rattle.layer_traits.specs.{Threads.MoveRules.MoveRules, Protocols.Protocol.Rules}
+use Rattle.layer_traits.specs.Layers.Queues.{kernel, QueueAllowed, event_of, lock_of, call_at}
+use Rattle.layer_traits.specs.Layers.Sleeping.{joined}
 use Rattle.layer_traits.specs.declared.queue_edits.QueueBlock.TheVariants as block
 
 -- the block that an edit leaves: a thread that is pushed joins the queue; an edit of the other kind
@@ -18,7 +22,8 @@ queue_edited edited (Above e) (block.Queue queue homes) = block.Queue queue home
 queue_edited edited (Above e) (block.Above b) = block.Above (edited e b)
 
 -- the result of an edit
-abbrev pub queue_answer : {E B O : Type 0} → (E → B → O) → QueueEdit E → QueueBlock B → QueueAnswer O
+abbrev pub queue_answer : {E B O : Type 0} → (E → B → O) → QueueEdit E → QueueBlock B
+    → QueueAnswer O
 queue_answer answer (Push t) b = Done
 queue_answer answer TakeAll (block.Queue queue homes) = Taken queue
 queue_answer answer TakeAll (block.Above b) = Done
@@ -39,11 +44,18 @@ IsProperCall None = Unit {0}
 IsProperCall (Some s) = IsProper s.lock s.edit
 
 -- a section may follow these: it edits a block of its kind, and its call is allowed
-pub record SectionAllowed {E B O : Type 0} (rules : Rules E B O) (mv : MoveRules E O) (opening : LockId → Option (QueueBlock B))
+pub record SectionAllowed {E B O : Type 0} (rules : Rules E B O) (mv : MoveRules E O)
+    (opening : LockId → Option (QueueBlock B))
     (past : List (Section (QueueEdit E))) (s : Section (QueueEdit E)) : Type 0 where
   pub proper : IsProper s.lock s.edit
   pub call : QueueAllowed (kernel rules mv opening) (map event_of past) (event_of s)
 
 -- the edits of shared queues over those of the layer above
-abbrev pub queue_rules : {E B O : Type 0} → Rules E B O → MoveRules E O → Rules (QueueEdit E) (QueueBlock B) (QueueAnswer O)
-queue_rules rules mv = record { edited = queue_edited rules.edited; answer = queue_answer rules.answer; allowed = SectionAllowed rules mv }
+abbrev pub queue_rules : {E B O : Type 0} → Rules E B O → MoveRules E O
+    → Rules (QueueEdit E) (QueueBlock B) (QueueAnswer O)
+queue_rules rules mv =
+    record {
+      edited = queue_edited rules.edited;
+      answer = queue_answer rules.answer;
+      allowed = SectionAllowed rules mv;
+    }

@@ -1,19 +1,36 @@
 -- The law of the layer of buffers: the stages of a message call, and the plan of a poll. What one
 -- poll of a call does to the effects, to the moves and to the part's private state.
-use Rattle.std.specs.Prelude.{◌≡◌, ◌≢◌, ◌⊎◌, ℕ, List, ◌++◌, Option, Some, None, option_map, option_to_list, replicate, slice_index, slice_index_or, slice_set}
+use Rattle.std.specs.Prelude.{◌≡◌, ◌≢◌, ◌⊎◌, ℕ, List, ◌++◌, Option, Some, None, option_map}
+use Rattle.std.specs.Prelude.{option_to_list, replicate, slice_index, slice_index_or, slice_set}
 use Rattle.std.specs.List.{AllByRecursion}
-use Rattle.event_log.specs.{declared.{entries.{Entry.Entry, Kind.Kind}, ids.{BufId.BufId, CpuId.CpuId, Tid.Tid, TheConstants.THREADS}}, Buffers.IsAllowedEffect}
-use Rattle.event_log.specs.{Buffers.items_of, Runs.{Closes, Receives, Sends, group_of, is_closed}, History.AreForeign, Messages.{Message, no_message}}
-use Rattle.layer_traits.specs.declared.locked.{QEdit.TheVariants.{Acquire, Inside, Release}, QOut.QOut, Side.{Side, TheVariants.{Receivers, Senders}}}
-use Rattle.layer_traits.specs.declared.conditions.{CvEdit.TheVariants.{Edit, SignalFront}, CvLeave.TheVariants.{Leave, Wait}, CvOut.CvOut}
-use Rattle.layer_traits.specs.declared.buffer_edits.{BufferEdit.{BufferEdit, TheVariants.{Enter, TryPut, TryTake, Shut}}, BufferOut.BufferOut}
-use Rattle.layer_traits.specs.declared.{buffer_edits.BufferOut.TheVariants.{Entered, NotYet, Done, WasShut}, calls.Call.{Call, TheVariants.{Send, Recv, Close}}}
-use Rattle.layer_traits.specs.declared.{calls.{Effect.Effect, Reply.Reply, ReplyKind.ReplyKind}, queue_edits.{QueueEdit.QueueEdit, QueueAnswer.QueueAnswer}}
-use Rattle.layer_traits.specs.declared.{passes.Pass.Pass, sleeps.Outcome.Outcome, call_states.Stage.{Stage, TheVariants.{Idle, Acquires, Enters, Tries, Waits}}}
-use Rattle.layer_traits.specs.declared.call_states.{Stage.TheVariants.{AcquiresAgain, Signals, SignalsOwn, Releases}, CallState.CallState}
-use Rattle.layer_traits.specs.Layers.{Conditions.CvCall, CvLaw.{Waiting, cv_pass_plan, cv_plan, waiting_at_start}, QLocking.lock_moves}
-use Rattle.layer_traits.specs.{Blocks.{BufferProtocol.buffer_rules, BufferEffects.{contents_of, entry}}, Threads.Places.{Step, Threads, cpu_of_step}}
-use Rattle.layer_traits.specs.Polling.Plans.{Left, Plan, Now, Act, raised}
+use Rattle.event_log.specs.declared.{entries.{Entry.Entry, Kind.Kind}, ids.BufId.BufId}
+use Rattle.event_log.specs.declared.ids.{CpuId.CpuId, Tid.Tid, TheConstants.THREADS}
+use Rattle.event_log.specs.{Buffers.{IsAllowedEffect, items_of}, Runs.{Closes, Receives, Sends}}
+use Rattle.event_log.specs.{Runs.{group_of, is_closed}, History.AreForeign, Messages.Message}
+use Rattle.event_log.specs.Messages.{no_message}
+use Rattle.layer_traits.specs.declared.locked.QEdit.TheVariants.{Acquire, Inside, Release}
+use Rattle.layer_traits.specs.declared.locked.{QOut.QOut, Side.{Side, TheVariants.Receivers}}
+use Rattle.layer_traits.specs.declared.locked.Side.TheVariants.{Senders}
+use Rattle.layer_traits.specs.declared.conditions.CvEdit.TheVariants.{Edit, SignalFront}
+use Rattle.layer_traits.specs.declared.conditions.{CvLeave.TheVariants.{Leave, Wait}, CvOut.CvOut}
+use Rattle.layer_traits.specs.declared.buffer_edits.BufferEdit.{BufferEdit, TheVariants.Enter}
+use Rattle.layer_traits.specs.declared.buffer_edits.BufferEdit.TheVariants.{TryPut, TryTake, Shut}
+use Rattle.layer_traits.specs.declared.buffer_edits.BufferOut.{BufferOut, TheVariants.Entered}
+use Rattle.layer_traits.specs.declared.buffer_edits.BufferOut.TheVariants.{NotYet, Done, WasShut}
+use Rattle.layer_traits.specs.declared.calls.Call.{Call, TheVariants.{Send, Recv, Close}}
+use Rattle.layer_traits.specs.declared.calls.{Effect.Effect, Reply.Reply, ReplyKind.ReplyKind}
+use Rattle.layer_traits.specs.declared.queue_edits.{QueueEdit.QueueEdit, QueueAnswer.QueueAnswer}
+use Rattle.layer_traits.specs.declared.{passes.Pass.Pass, sleeps.Outcome.Outcome}
+use Rattle.layer_traits.specs.declared.call_states.Stage.{Stage, TheVariants.{Idle, Acquires}}
+use Rattle.layer_traits.specs.declared.call_states.Stage.TheVariants.{Enters, Tries, Waits}
+use Rattle.layer_traits.specs.declared.call_states.Stage.TheVariants.{AcquiresAgain, Signals}
+use Rattle.layer_traits.specs.declared.call_states.Stage.TheVariants.{SignalsOwn, Releases}
+use Rattle.layer_traits.specs.{declared.call_states.CallState.CallState, Layers.Conditions.CvCall}
+use Rattle.layer_traits.specs.Layers.CvLaw.{Waiting, cv_pass_plan, cv_plan, waiting_at_start}
+use Rattle.layer_traits.specs.{Layers.QLocking.lock_moves, Blocks.BufferProtocol.buffer_rules}
+use Rattle.layer_traits.specs.{Blocks.BufferEffects.{contents_of, entry}, Threads.Places.Step}
+use Rattle.layer_traits.specs.{Threads.Places.{Threads, cpu_of_step}, Polling.Plans.{Left, Plan}}
+use Rattle.layer_traits.specs.Polling.Plans.{Now, Act, raised}
 use Rattle.event_log.specs.declared.entries.Kind.TheVariants as kind
 use Rattle.layer_traits.specs.declared.locked.QOut.TheVariants as out
 use Rattle.layer_traits.specs.declared.conditions.CvOut.TheVariants as answer
@@ -134,7 +151,9 @@ answer_in left t answer = answer_with (call_state_of left t).effect answer
 -- effect's
 abbrev pub Answered : Call → CallState → Option Reply → Type 0
 Answered call call_state None = begun_of call_state ≡ Some call
-Answered call call_state (Some reply) = (call_state.stage ≡ Idle) × ((f : Effect) × (call_state.effect ≡ Some f) × (reply ≡ reply_of call f))
+Answered call call_state (Some reply) =
+    (call_state.stage ≡ Idle)
+    × ((f : Effect) × (call_state.effect ≡ Some f) × (reply ≡ reply_of call f))
 
 -- the CPU of an entry
 abbrev pub cpu_of_entry : Entry → CpuId
@@ -142,15 +161,19 @@ cpu_of_entry e = e.cpu
 
 -- a poll of a call: environment effects are first, then at most the call's own one; each call has
 -- exactly one in all. The call states of other threads are unchanged
-pub record Called (ActsFor : CpuId → Type 0) (cpu : CpuId) (t : Tid) (call : Call) (call_states left : List CallState)
+pub record Called (ActsFor : CpuId → Type 0) (cpu : CpuId) (t : Tid) (call : Call)
+    (call_states left : List CallState)
     (old new : List Entry) (answer : Option Reply) : Type 0 where
   pub others : List Entry
   pub mine : Option Effect
   pub foreign : AreForeign ActsFor cpu_of_entry others
-  pub is : new ≡ option_to_list (option_map (entry_of cpu t (buffer_of call)) mine) ++ (others ++ old)
-  pub fresh : (f : Effect) → mine ≡ Some f → ((going (call_state_of call_states t) call).effect ≡ None) ×
+  pub is : new ≡ option_to_list (option_map (entry_of cpu t (buffer_of call)) mine)
+      ++ (others ++ old)
+  pub fresh : (f : Effect) → mine ≡ Some f
+      → ((going (call_state_of call_states t) call).effect ≡ None) ×
       ((call_state_of left t).effect ≡ Some f) × IsEffectOf call f
-  pub stays : mine ≡ None → (call_state_of left t).effect ≡ (going (call_state_of call_states t) call).effect
+  pub stays : mine ≡ None → (call_state_of left t).effect
+      ≡ (going (call_state_of call_states t) call).effect
   pub answers : Answered call (call_state_of left t) answer
   pub apart : (u : Tid) → u.0 ≢ t.0 → call_state_of left u ≡ call_state_of call_states u
 
@@ -200,13 +223,18 @@ pub record RunsOn {A : Type 0} (t : Tid) (own left : Threads) (answer : Option A
 
 -- a buffer allows an effect of this kind with this message after these
 abbrev pub AllowsAfter : List ℕ → List Entry → BufId → Kind → Message → Type 0
-AllowsAfter caps past b kind m = IsAllowedEffect kind (is_closed past b.0) (slice_index caps b.0) (items_of (contents_of caps past) b.0) m
+AllowsAfter caps past b kind m =
+    IsAllowedEffect kind (is_closed past b.0) (slice_index caps b.0)
+    (items_of (contents_of caps past) b.0) m
 
 -- why a machine that does a whole call in one poll returns no result: the buffer allows the call no
 -- effect. A close is always allowed
 abbrev pub IsRefused : Call → List ℕ → List Entry → Type 0
-IsRefused (Send b m) caps past = (AllowsAfter caps past b kind.Send m → ⊥) × (AllowsAfter caps past b kind.SendClosed m → ⊥)
-IsRefused (Recv b) caps past = (m : Message) → (AllowsAfter caps past b kind.Recv m → ⊥) × (AllowsAfter caps past b kind.RecvClosed m → ⊥)
+IsRefused (Send b m) caps past =
+    (AllowsAfter caps past b kind.Send m → ⊥) × (AllowsAfter caps past b kind.SendClosed m → ⊥)
+IsRefused (Recv b) caps past =
+    (m : Message) → (AllowsAfter caps past b kind.Recv m → ⊥)
+    × (AllowsAfter caps past b kind.RecvClosed m → ⊥)
 IsRefused (Close b) caps past = ⊥
 
 -- a CPU's private state: that of its conditions, and the call state of each thread
@@ -245,7 +273,13 @@ reported_by other = NotYet
 -- the thread has entered its queue: it records its position, and tries next; or it has closed the
 -- buffer, and signals
 abbrev pub enlisted : CallState → BufferOut → CallState
-enlisted call_state (Entered position) = record { stage = Tries; call = call_state.call; position = position; effect = call_state.effect }
+enlisted call_state (Entered position) =
+    record {
+      stage = Tries;
+      call = call_state.call;
+      position = position;
+      effect = call_state.effect;
+    }
 enlisted call_state NotYet = call_state
 enlisted call_state (Done kind op value) = call_state
 enlisted call_state (WasShut op pos) = record {
@@ -257,9 +291,27 @@ enlisted call_state (WasShut op pos) = record {
 
 -- the thread has tried: after its effect it signals, otherwise it waits
 abbrev pub tried : CallState → BufferOut → CallState
-tried call_state (Entered position) = record { stage = Waits; call = call_state.call; position = call_state.position; effect = call_state.effect }
-tried call_state NotYet = record { stage = Waits; call = call_state.call; position = call_state.position; effect = call_state.effect }
-tried call_state (WasShut op pos) = record { stage = Waits; call = call_state.call; position = call_state.position; effect = call_state.effect }
+tried call_state (Entered position) =
+    record {
+      stage = Waits;
+      call = call_state.call;
+      position = call_state.position;
+      effect = call_state.effect;
+    }
+tried call_state NotYet =
+    record {
+      stage = Waits;
+      call = call_state.call;
+      position = call_state.position;
+      effect = call_state.effect;
+    }
+tried call_state (WasShut op pos) =
+    record {
+      stage = Waits;
+      call = call_state.call;
+      position = call_state.position;
+      effect = call_state.effect;
+    }
 tried call_state (Done kind op value) = record {
   stage = Signals;
   call = call_state.call;
@@ -269,7 +321,13 @@ tried call_state (Done kind op value) = record {
 
 -- the call state at another stage
 abbrev pub at_stage : Stage → CallState → CallState
-at_stage stage call_state = record { stage = stage; call = call_state.call; position = call_state.position; effect = call_state.effect }
+at_stage stage call_state =
+    record {
+      stage = stage;
+      call = call_state.call;
+      position = call_state.position;
+      effect = call_state.effect;
+    }
 
 -- the call state after the section of a stage with this result
 abbrev pub recorded : CallState → Stage → QOut (CvOut BufferOut) → CallState
@@ -281,7 +339,8 @@ recorded call_state Waits out = at_stage AcquiresAgain call_state
 recorded call_state AcquiresAgain out = at_stage Tries call_state
 recorded call_state Signals out = at_stage SignalsOwn call_state
 recorded call_state SignalsOwn out = at_stage Releases call_state
-recorded call_state Releases out = record { stage = Idle; call = None; position = call_state.position; effect = call_state.effect }
+recorded call_state Releases out =
+    record { stage = Idle; call = None; position = call_state.position; effect = call_state.effect }
 
 -- the reply of a call at a stage: the last section's result is the effect's
 abbrev pub replied : Call → CallState → Stage → Option Reply
@@ -289,43 +348,59 @@ replied call call_state Releases = option_map (reply_of call) call_state.effect
 replied call call_state stage = None
 
 -- what a poll leaves, from what the poll of its section left
-abbrev pub left_recorded_with : Tid → Call → CallState → List CallState → Stage → Waiting BufferOut → Option (Outcome (QOut (CvOut BufferOut)))
+abbrev pub left_recorded_with : Tid → Call → CallState → List CallState → Stage → Waiting BufferOut
+    → Option (Outcome (QOut (CvOut BufferOut)))
     → Left Buffering Reply
-left_recorded_with t call call_state call_states stage cv None = record { own = buffering cv (slice_set call_states t.0 call_state); answer = None }
+left_recorded_with t call call_state call_states stage cv None =
+    record { own = buffering cv (slice_set call_states t.0 call_state); answer = None }
 left_recorded_with t call call_state call_states stage cv (Some outcome) =
-    record { own = buffering cv (slice_set call_states t.0 (recorded call_state stage outcome.out)); answer = replied call call_state stage }
+    record {
+      own = buffering cv (slice_set call_states t.0 (recorded call_state stage outcome.out));
+      answer = replied call call_state stage;
+    }
 
-abbrev pub left_recorded : Tid → Call → CallState → List CallState → Stage → Left (Waiting BufferOut) (Outcome (QOut (CvOut BufferOut))) → Left Buffering Reply
-left_recorded t call call_state call_states stage left = left_recorded_with t call call_state call_states stage left.own left.answer
+abbrev pub left_recorded : Tid → Call → CallState → List CallState → Stage
+    → Left (Waiting BufferOut) (Outcome (QOut (CvOut BufferOut))) → Left Buffering Reply
+left_recorded t call call_state call_states stage left =
+    left_recorded_with t call call_state call_states stage left.own left.answer
 
 -- the names, results and states of the plans of buffers
 abbrev pub BufferPlan : Type 0 → Type 0
-BufferPlan A = Plan (QueueEdit (CvCall BufferEdit)) (QueueAnswer (Outcome (QOut (CvOut BufferOut)))) Buffering A
+BufferPlan A =
+    Plan (QueueEdit (CvCall BufferEdit)) (QueueAnswer (Outcome (QOut (CvOut BufferOut)))) Buffering
+    A
 
 -- a plan that continues in the same poll if the lower layer's section returns without an action
-abbrev pub chained_now : {N R S T A B : Type 0} → (T → Plan N R T B) → (Left S A → Left T B) → Left S A → Option A → Plan N R T B
+abbrev pub chained_now : {N R S T A B : Type 0} → (T → Plan N R T B) → (Left S A → Left T B)
+    → Left S A → Option A → Plan N R T B
 chained_now next f left None = Now (f left)
 chained_now next f left (Some answer) = next (f left).own
 
-abbrev pub chained : {N R S T A B : Type 0} → (T → Plan N R T B) → (Left S A → Left T B) → Plan N R S A → Plan N R T B
+abbrev pub chained : {N R S T A B : Type 0} → (T → Plan N R T B) → (Left S A → Left T B)
+    → Plan N R S A → Plan N R T B
 chained next f (Now left) = chained_now next f left left.answer
 chained next f (Act lock name react) = Act lock name (λ reply. f (react reply))
 
 module _ (homes : List CpuId) (c : CpuId) (t : Tid) (call : Call) where
   -- the plan of a stage's section, in the lower layer
   abbrev pub plan_beneath : Stage → Waiting BufferOut
-      → Plan (QueueEdit (CvCall BufferEdit)) (QueueAnswer (Outcome (QOut (CvOut BufferOut)))) (Waiting BufferOut) (Outcome (QOut (CvOut BufferOut)))
-  plan_beneath stage cv = cv_plan (lock_moves buffer_rules) homes c (buffer_of call) (section_at t call stage) cv
+      → Plan (QueueEdit (CvCall BufferEdit)) (QueueAnswer (Outcome (QOut (CvOut BufferOut))))
+      (Waiting BufferOut) (Outcome (QOut (CvOut BufferOut)))
+  plan_beneath stage cv =
+      cv_plan (lock_moves buffer_rules) homes c (buffer_of call) (section_at t call stage) cv
 
   -- the plan of one section of a call, at a stage
   abbrev pub stage_plan : Stage → CallState → Buffering → BufferPlan Reply
-  stage_plan stage call_state own = raised (left_recorded t call call_state own.call_states stage) (plan_beneath stage own.cv)
+  stage_plan stage call_state own =
+      raised (left_recorded t call call_state own.call_states stage) (plan_beneath stage own.cv)
 
   -- the plan of a stage whose section may be over without an action: the next stage's section then
   -- follows in the same poll
-  abbrev pub plan_on : Stage → (CallState → Buffering → BufferPlan Reply) → CallState → Buffering → BufferPlan Reply
+  abbrev pub plan_on : Stage → (CallState → Buffering → BufferPlan Reply) → CallState → Buffering
+      → BufferPlan Reply
   plan_on stage next call_state own =
-      chained (λ left. next (call_state_of left.call_states t) left) (left_recorded t call call_state own.call_states stage) (plan_beneath stage own.cv)
+      chained (λ left. next (call_state_of left.call_states t) left)
+      (left_recorded t call call_state own.call_states stage) (plan_beneath stage own.cv)
 
   -- the plan of a call at a stage
   abbrev pub plan_at : Stage → CallState → Buffering → BufferPlan Reply
@@ -333,7 +408,8 @@ module _ (homes : List CpuId) (c : CpuId) (t : Tid) (call : Call) where
   plan_at Acquires call_state own = plan_on Acquires (stage_plan Enters) call_state own
   plan_at Enters call_state own = stage_plan Enters call_state own
   plan_at Tries call_state own = stage_plan Tries call_state own
-  plan_at Waits call_state own = plan_on Waits (plan_on AcquiresAgain (stage_plan Tries)) call_state own
+  plan_at Waits call_state own =
+      plan_on Waits (plan_on AcquiresAgain (stage_plan Tries)) call_state own
   plan_at AcquiresAgain call_state own = plan_on AcquiresAgain (stage_plan Tries) call_state own
   plan_at Signals call_state own = stage_plan Signals call_state own
   plan_at SignalsOwn call_state own = stage_plan SignalsOwn call_state own
@@ -341,12 +417,18 @@ module _ (homes : List CpuId) (c : CpuId) (t : Tid) (call : Call) where
 
   -- the plan of a poll of a call
   abbrev pub fifo_plan : Buffering → BufferPlan Reply
-  fifo_plan own = plan_at (going (call_state_of own.call_states t) call).stage (going (call_state_of own.call_states t) call) own
+  fifo_plan own =
+      plan_at (going (call_state_of own.call_states t) call).stage
+      (going (call_state_of own.call_states t) call) own
 
 -- a pass leaves the call states unchanged
-abbrev pub call_states_passed : {A : Type 0} → List CallState → Left (Waiting BufferOut) A → Left Buffering A
-call_states_passed call_states left = record { own = buffering left.own call_states; answer = left.answer }
+abbrev pub call_states_passed : {A : Type 0} → List CallState → Left (Waiting BufferOut) A
+    → Left Buffering A
+call_states_passed call_states left =
+    record { own = buffering left.own call_states; answer = left.answer }
 
 -- the plan of a pass
 abbrev pub fifo_pass_plan : List CpuId → CpuId → Pass → Buffering → BufferPlan (Unit {0})
-fifo_pass_plan homes c p own = raised (call_states_passed own.call_states) (cv_pass_plan (lock_moves buffer_rules) homes c p own.cv)
+fifo_pass_plan homes c p own =
+    raised (call_states_passed own.call_states)
+    (cv_pass_plan (lock_moves buffer_rules) homes c p own.cv)

@@ -1,8 +1,13 @@
 -- Conditions: what the edits that signal and wait make of the block of a queuing lock.
-use Rattle.{std.specs.Prelude.{List, Option, Some, None}, event_log.specs.{declared.ids.{LockId.LockId, Tid.Tid}, Sections.Section}}
-use Rattle.layer_traits.specs.declared.locked.{QEdit.QEdit, Side.{Side, TheVariants.{Receivers, Senders}}, WakeWaiter.{WakeWaiter, TheVariants.Nobody}}
-use Rattle.layer_traits.specs.declared.{locked.WakeWaiter.TheVariants.{Receiver, Sender}, conditions.CvEdit.{CvEdit, TheVariants.{Edit, SignalFront}}}
-use Rattle.layer_traits.specs.declared.conditions.{CvLeave.{CvLeave, TheVariants.{Leave, Wait}}, CvOut.{CvOut, TheVariants.{Did, Signalled, Left, Waited}}}
+use Rattle.std.specs.Prelude.{List, Option, Some, None}
+use Rattle.event_log.specs.{declared.ids.{LockId.LockId, Tid.Tid}, Sections.Section}
+use Rattle.layer_traits.specs.declared.locked.{QEdit.QEdit, Side.{Side, TheVariants.Receivers}}
+use Rattle.layer_traits.specs.declared.locked.{Side.TheVariants.Senders, WakeWaiter.WakeWaiter}
+use Rattle.layer_traits.specs.declared.locked.WakeWaiter.TheVariants.{Nobody, Receiver, Sender}
+use Rattle.layer_traits.specs.declared.conditions.CvEdit.{CvEdit, TheVariants.{Edit, SignalFront}}
+use Rattle.layer_traits.specs.declared.conditions.CvLeave.{CvLeave, TheVariants.{Leave, Wait}}
+use Rattle.layer_traits.specs.declared.conditions.CvOut.{CvOut, TheVariants.{Did, Signalled, Left}}
+use Rattle.layer_traits.specs.declared.conditions.CvOut.TheVariants.{Waited}
 use Rattle.layer_traits.specs.Layers.QLocking.{LockState, LockRules}
 
 -- the calls on a lock with conditions: Acquire, an edit or a signal inside, and a leave or a wait
@@ -18,7 +23,8 @@ pub record MonitorRules (G B O : Type 0) : Type 1 where
   pub edited : G → B → B
   pub answer : G → B → O
   pub ready : Side → B → Option Tid
-  pub allowed : (LockId → Option (LockState B)) → List (Section (CvCall G)) → Section (CvCall G) → Type 0
+  pub allowed : (LockId → Option (LockState B)) → List (Section (CvCall G)) → Section (CvCall G)
+      → Type 0
 
 -- the signal to the thread that was found on this side, if one was
 abbrev pub signal_to : Side → Option Tid → WakeWaiter
@@ -67,7 +73,8 @@ leave_answer (Leave t) block = Left
 leave_answer (Wait t side) block = Waited side
 
 -- the rules of a queuing lock with conditions
-abbrev pub cv_rules : {G B O : Type 0} → MonitorRules G B O → LockRules (CvEdit G) CvLeave B (CvOut O)
+abbrev pub cv_rules : {G B O : Type 0} → MonitorRules G B O
+    → LockRules (CvEdit G) CvLeave B (CvOut O)
 cv_rules monitor_rules = record {
   caller = cv_caller monitor_rules;
   edited = cv_edited monitor_rules;

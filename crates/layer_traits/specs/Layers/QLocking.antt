@@ -1,11 +1,17 @@
 -- A lock with an owner: what its calls make of the owner and of the waiting lists; and the owner as
 -- a function of the history.
 use Rattle.std.specs.Prelude.{◌≡◌, ◌≢◌, List, [], Option, Some, None, is_some, if◌then◌else◌}
-use Rattle.{event_log.specs.{declared.ids.{LockId.LockId, Tid.Tid}, Sections.{Section, block_after}}, layer_traits.specs.declared.locked.QEdit.QEdit}
-use Rattle.layer_traits.specs.declared.locked.{QEdit.TheVariants.{Acquire, Inside, Release}, QOut.{QOut, TheVariants.{Acquired, Queued, Did, Released}}}
-use Rattle.layer_traits.specs.declared.locked.{Side.{Side, TheVariants.{Receivers, Senders}}, WakeWaiter.{WakeWaiter, TheVariants.{Nobody, Receiver, Sender}}}
-use Rattle.layer_traits.specs.{declared.{moves.WaitList.WaitList, sleeps.Outcome.Outcome}, Threads.MoveRules.MoveRules, Protocols.Protocol.Rules}
-use Rattle.{layer_traits.specs.Layers.Sleeping.joined, thread_blocks.specs.Queues.{is_in, first, rest, without}}
+use Rattle.event_log.specs.{declared.ids.{LockId.LockId, Tid.Tid}, Sections.{Section, block_after}}
+use Rattle.layer_traits.specs.declared.locked.QEdit.{QEdit, TheVariants.{Acquire, Inside, Release}}
+use Rattle.layer_traits.specs.declared.locked.QOut.{QOut, TheVariants.{Acquired, Queued, Did}}
+use Rattle.layer_traits.specs.declared.locked.{QOut.TheVariants.Released, Side.Side}
+use Rattle.layer_traits.specs.declared.locked.Side.TheVariants.{Receivers, Senders}
+use Rattle.layer_traits.specs.declared.locked.WakeWaiter.{WakeWaiter, TheVariants.Nobody}
+use Rattle.layer_traits.specs.declared.locked.WakeWaiter.TheVariants.{Receiver, Sender}
+use Rattle.layer_traits.specs.declared.{moves.WaitList.WaitList, sleeps.Outcome.Outcome}
+use Rattle.layer_traits.specs.{Threads.MoveRules.MoveRules, Protocols.Protocol.Rules}
+use Rattle.{layer_traits.specs.Layers.Sleeping.joined, thread_blocks.specs.Queues.{is_in, first}}
+use Rattle.thread_blocks.specs.Queues.{rest, without}
 use Rattle.layer_traits.specs.declared.moves.WaitList.TheVariants as wait_list
 
 -- a lock: its owner, and its waiting lists, each with its first in front
@@ -33,7 +39,8 @@ pub record LockRules (F R B O : Type 0) : Type 1 where
   pub last_edited : R → B → B
   pub last_answer : R → B → O
   pub waits : O → Option Side
-  pub allowed : (LockId → Option (LockState B)) → List (Section (QEdit F R)) → Section (QEdit F R) → Type 0
+  pub allowed : (LockId → Option (LockState B)) → List (Section (QEdit F R)) → Section (QEdit F R)
+      → Type 0
 
 -- the list of this side, if a caller waits on that side
 abbrev pub list_with_waiter : Side → Option Side → Tid → List Tid → List Tid
@@ -106,15 +113,20 @@ module _ {F R B O : Type 0} (rules : LockRules F R B O) where
   lock_edited (Inside f) state = record {
     owner = state.owner;
     sleepers = state.sleepers;
-    receivers = waiting_without Receivers (rules.signals (rules.answer f state.above)) state.receivers;
+    receivers =
+        waiting_without Receivers (rules.signals (rules.answer f state.above)) state.receivers;
     senders = waiting_without Senders (rules.signals (rules.answer f state.above)) state.senders;
     above = rules.edited f state.above;
   }
   lock_edited (Release r) state = record {
     owner = first state.sleepers;
     sleepers = rest state.sleepers;
-    receivers = list_with_waiter Receivers (rules.waits (rules.last_answer r state.above)) (rules.last_caller r) state.receivers;
-    senders = list_with_waiter Senders (rules.waits (rules.last_answer r state.above)) (rules.last_caller r) state.senders;
+    receivers =
+        list_with_waiter Receivers (rules.waits (rules.last_answer r state.above))
+        (rules.last_caller r) state.receivers;
+    senders =
+        list_with_waiter Senders (rules.waits (rules.last_answer r state.above))
+        (rules.last_caller r) state.senders;
     above = rules.last_edited r state.above;
   }
 
@@ -127,7 +139,8 @@ module _ {F R B O : Type 0} (rules : LockRules F R B O) where
   -- which thread a call wakes
   abbrev pub lock_woke : QEdit F R → LockState B → Option Tid
   lock_woke (Acquire t) state = None
-  lock_woke (Inside f) state = signalled (rules.signals (rules.answer f state.above)) state.receivers state.senders
+  lock_woke (Inside f) state =
+      signalled (rules.signals (rules.answer f state.above)) state.receivers state.senders
   lock_woke (Release r) state = first state.sleepers
 
   -- a call's result, without its outcome
@@ -138,7 +151,12 @@ module _ {F R B O : Type 0} (rules : LockRules F R B O) where
 
   -- a call's outcome
   abbrev pub lock_answer : QEdit F R → LockState B → Outcome (QOut O)
-  lock_answer e state = record { out = lock_out e state; slept = is_some (lock_slept e state); woke = lock_woke e state }
+  lock_answer e state =
+      record {
+        out = lock_out e state;
+        slept = is_some (lock_slept e state);
+        woke = lock_woke e state;
+      }
 
   -- which list a caller with this result joined
   abbrev pub wait_list_slept : QOut O → Option WaitList
@@ -148,7 +166,8 @@ module _ {F R B O : Type 0} (rules : LockRules F R B O) where
   wait_list_slept (Released out) = wait_list_for (rules.waits out)
 
   -- a lock after these calls
-  abbrev pub lock_after : (LockId → Option (LockState B)) → LockId → List (Section (QEdit F R)) → Option (LockState B)
+  abbrev pub lock_after : (LockId → Option (LockState B)) → LockId → List (Section (QEdit F R))
+      → Option (LockState B)
   lock_after opening lock past = block_after lock_edited opening lock past
 
   -- a call is the owner's; an Acquire is not
@@ -158,22 +177,32 @@ module _ {F R B O : Type 0} (rules : LockRules F R B O) where
   IsOwners (Release r) owner = owner ≡ Some (rules.last_caller r)
 
   -- the owner of a lock: a function of the history only, so that there is at most one
-  abbrev pub owner_of : (LockId → Option (LockState B)) → List (Section (QEdit F R)) → LockId → Option Tid
+  abbrev pub owner_of : (LockId → Option (LockState B)) → List (Section (QEdit F R)) → LockId
+      → Option Tid
   owner_of opening past lock = owner_in (lock_after opening lock past)
 
 -- a call keeps the protocol: it is the owner's, and the edits above allow it
-pub record LockAllowed {F R B O : Type 0} (rules : LockRules F R B O) (opening : LockId → Option (LockState B)) (past : List (Section (QEdit F R)))
+pub record LockAllowed {F R B O : Type 0} (rules : LockRules F R B O)
+    (opening : LockId → Option (LockState B)) (past : List (Section (QEdit F R)))
     (s : Section (QEdit F R)) : Type 0 where
   pub owners : IsOwners rules s.edit (owner_of rules opening past s.lock)
   pub granted : rules.allowed opening past s
 
 -- what the calls on a queuing lock mean
-abbrev pub lock_rules : {F R B O : Type 0} → LockRules F R B O → Rules (QEdit F R) (LockState B) (Outcome (QOut O))
-lock_rules rules = record { edited = lock_edited rules; answer = lock_answer rules; allowed = LockAllowed rules }
+abbrev pub lock_rules : {F R B O : Type 0} → LockRules F R B O
+    → Rules (QEdit F R) (LockState B) (Outcome (QOut O))
+lock_rules rules =
+    record { edited = lock_edited rules; answer = lock_answer rules; allowed = LockAllowed rules }
 
 -- how they move threads
-abbrev pub lock_moves : {F R B O : Type 0} → LockRules F R B O → MoveRules (QEdit F R) (Outcome (QOut O))
-lock_moves rules = record { caller = lock_caller rules; slept = λ outcome. wait_list_slept rules outcome.out; woke = λ outcome. outcome.woke }
+abbrev pub lock_moves : {F R B O : Type 0} → LockRules F R B O
+    → MoveRules (QEdit F R) (Outcome (QOut O))
+lock_moves rules =
+    record {
+      caller = lock_caller rules;
+      slept = λ outcome. wait_list_slept rules outcome.out;
+      woke = λ outcome. outcome.woke;
+    }
 
 -- this waiting list of a lock; empty if there is no such lock
 abbrev pub wait_list_in : {B : Type 0} → WaitList → Option (LockState B) → List Tid
@@ -185,7 +214,8 @@ wait_list_in wait_list.Senders (Some state) = state.senders
 -- a lock has no owner, and no thread sleeps or waits there
 abbrev pub IsAtRest : {B : Type 0} → Option (LockState B) → Type 0
 IsAtRest None = Unit {0}
-IsAtRest (Some state) = (state.owner ≡ None) × (state.sleepers ≡ []) × (state.receivers ≡ []) × (state.senders ≡ [])
+IsAtRest (Some state) =
+    (state.owner ≡ None) × (state.sleepers ≡ []) × (state.receivers ≡ []) × (state.senders ≡ [])
 
 -- this holds of each lock
 abbrev pub AreAtRest : {B : Type 0} → (LockId → Option (LockState B)) → Type 0

@@ -1,14 +1,22 @@
 -- Calls of a scheduler: a pass from thread to thread, or an edit of a buffer's block by the thread
 -- that runs. What each makes of the CPU's own threads, which call it is at the shared queues, where
 -- it is allowed, and what one poll of it means.
-use Rattle.std.specs.Prelude.{◌≡◌, List, [], ◌∷◌, ◌++◌, Option, Some, None, IsSome, option_map, is_some, MatchOption, if◌then◌else◌}
-use Rattle.event_log.specs.{declared.ids.{CpuId.CpuId, LockId.{LockId, TheVariants.Buffer}}, History.{AreForeign, AreOthers, IsLawful}}
-use Rattle.layer_traits.specs.declared.{passes.Pass.{Pass, TheVariants.{Switch, YieldNow, Drain, MakeReady, End}}, queue_edits.QueueEdit.QueueEdit}
-use Rattle.layer_traits.specs.declared.{queue_edits.QueueAnswer.QueueAnswer, queues.{QueueCall.QueueCall, QueueEvent.QueueEvent}}
-use Rattle.layer_traits.specs.{declared.scheds.{SchedAnswer.{SchedAnswer, TheVariants.{Done, Answer}}, SchedCall.SchedCall}, Threads.MoveRules.MoveRules}
-use Rattle.layer_traits.specs.Threads.{Passes.{MayPass, IsLocalPass, own_slept, own_woken, pass_after, passed_on, queue_for, took_pending}, Places.Threads}
-use Rattle.layer_traits.specs.{Threads.Places.pending_by, Polling.Plans.{Left, Plan, Now, raised}, Protocols.Protocol.section, Layers.Queues.Kernel}
-use Rattle.layer_traits.specs.Layers.Queues.{QueueAllowed, buffer_sections, event, cpu_of_queue_event, moves_in, out_at, queue_plan}
+use Rattle.std.specs.Prelude.{◌≡◌, List, [], ◌∷◌, ◌++◌, Option, Some, None, IsSome, option_map}
+use Rattle.std.specs.Prelude.{is_some, MatchOption, if◌then◌else◌}
+use Rattle.event_log.specs.declared.ids.{CpuId.CpuId, LockId.{LockId, TheVariants.Buffer}}
+use Rattle.event_log.specs.History.{AreForeign, AreOthers, IsLawful}
+use Rattle.layer_traits.specs.declared.passes.Pass.{Pass, TheVariants.{Switch, YieldNow, Drain}}
+use Rattle.layer_traits.specs.declared.passes.Pass.TheVariants.{MakeReady, End}
+use Rattle.layer_traits.specs.declared.queue_edits.{QueueEdit.QueueEdit, QueueAnswer.QueueAnswer}
+use Rattle.layer_traits.specs.declared.queues.{QueueCall.QueueCall, QueueEvent.QueueEvent}
+use Rattle.layer_traits.specs.declared.scheds.SchedAnswer.{SchedAnswer, TheVariants.{Done, Answer}}
+use Rattle.layer_traits.specs.{declared.scheds.SchedCall.SchedCall, Threads.MoveRules.MoveRules}
+use Rattle.layer_traits.specs.Threads.Passes.{MayPass, IsLocalPass, own_slept, own_woken}
+use Rattle.layer_traits.specs.Threads.Passes.{pass_after, passed_on, queue_for, took_pending}
+use Rattle.layer_traits.specs.{Threads.Places.{Threads, pending_by}, Polling.Plans.{Left, Plan}}
+use Rattle.layer_traits.specs.{Polling.Plans.{Now, raised}, Protocols.Protocol.section}
+use Rattle.layer_traits.specs.Layers.Queues.{Kernel, QueueAllowed, buffer_sections, event}
+use Rattle.layer_traits.specs.Layers.Queues.{cpu_of_queue_event, moves_in, out_at, queue_plan}
 use Rattle.layer_traits.specs.declared.queue_edits.QueueAnswer.TheVariants as told
 use Rattle.layer_traits.specs.declared.queues.QueueCall.TheVariants as queue
 use Rattle.layer_traits.specs.declared.scheds.SchedCall.TheVariants as call
@@ -33,17 +41,21 @@ events_of c (Some q) = event c q ∷ []
 
 -- the CPU's private state after an edit's result: the caller may have gone to sleep, and a sleeper
 -- may have been woken
-abbrev pub own_answered : {E O : Type 0} → MoveRules E O → List CpuId → CpuId → Option O → Threads → Threads
+abbrev pub own_answered : {E O : Type 0} → MoveRules E O → List CpuId → CpuId → Option O → Threads
+    → Threads
 own_answered mv homes c None own = own
-own_answered mv homes c (Some out) own = own_woken homes c (mv.woke out) (own_slept (mv.slept out) own)
+own_answered mv homes c (Some out) own =
+    own_woken homes c (mv.woke out) (own_slept (mv.slept out) own)
 
 -- the CPU's private state after a call that is done after these events
-abbrev pub own_after : {E B O : Type 0} → Kernel E B O → CpuId → List (QueueEvent E) → SchedCall E → Threads → Threads
+abbrev pub own_after : {E B O : Type 0} → Kernel E B O → CpuId → List (QueueEvent E) → SchedCall E
+    → Threads → Threads
 own_after k c past (call.Pass p) own = pass_after p (pending_by (moves_in k past) c) own
 own_after k c past (call.OnBuffer b e) own = own_answered k.moves k.homes c (out_at k past b e) own
 
 -- a call's result after these events
-abbrev pub answer_to : {E B O : Type 0} → Kernel E B O → List (QueueEvent E) → SchedCall E → Option (SchedAnswer O)
+abbrev pub answer_to : {E B O : Type 0} → Kernel E B O → List (QueueEvent E) → SchedCall E
+    → Option (SchedAnswer O)
 answer_to k past (call.Pass p) = Some Done
 answer_to k past (call.OnBuffer b e) = option_map Answer (out_at k past b e)
 
@@ -65,27 +77,34 @@ StateFor mv (call.OnBuffer b e) own = (own.current ≡ Some (mv.caller e)) × (o
 
 -- the layer above allows an edit, and still does after whatever allowed calls of other CPUs precede
 -- it
-abbrev pub EditStays : {E B O : Type 0} → Kernel E B O → CpuId → List (QueueEvent E) → SchedCall E → Type 0
+abbrev pub EditStays : {E B O : Type 0} → Kernel E B O → CpuId → List (QueueEvent E) → SchedCall E
+    → Type 0
 EditStays k c past (call.Pass p) = Unit {0}
-EditStays k c past (call.OnBuffer b e) = (more : List (QueueEvent _)) → AreOthers cpu_of_queue_event c more → IsLawful (QueueAllowed k) (more ++ past)
+EditStays k c past (call.OnBuffer b e) =
+    (more : List (QueueEvent _)) → AreOthers cpu_of_queue_event c more
+    → IsLawful (QueueAllowed k) (more ++ past)
     → k.rules.allowed k.opening (buffer_sections (more ++ past)) (section c (Buffer b) e)
 
 -- a call may be polled: at its first poll the CPU's own threads and the layer above allow it; after
 -- that it is the pending one
-abbrev pub MaySched : {E B O : Type 0} → Kernel E B O → CpuId → List (QueueEvent E) → Threads → Option (SchedCall E) → SchedCall E → Type 0
+abbrev pub MaySched : {E B O : Type 0} → Kernel E B O → CpuId → List (QueueEvent E) → Threads
+    → Option (SchedCall E) → SchedCall E → Type 0
 MaySched k c past own None s = StateFor k.moves s own × EditStays k c past s
 MaySched k c past own (Some under_way) s = under_way ≡ s
 
 -- a poll of a call: environment events are first, then the call's own exactly if the poll returns a
 -- result. The CPU's own threads change with it and only then, the result is that at this point, and
 -- a call that touches nothing shared returns at once
-pub record SchedPolled {E B O : Type 0} (k : Kernel E B O) (ActsFor : CpuId → Type 0) (c : CpuId) (s : SchedCall E) (result : Option (SchedAnswer O))
+pub record SchedPolled {E B O : Type 0} (k : Kernel E B O) (ActsFor : CpuId → Type 0) (c : CpuId)
+    (s : SchedCall E) (result : Option (SchedAnswer O))
     (old new : List (QueueEvent E)) (own own' : Threads) : Type 0 where
   pub others : List (QueueEvent E)
   pub foreign : AreForeign ActsFor cpu_of_queue_event others
-  pub is : new ≡ (if is_some result then events_of c (queue_call k.homes c s) ++ (others ++ old) else others ++ old)
+  pub is : new ≡ (if is_some result then events_of c (queue_call k.homes c s) ++ (others ++ old)
+      else others ++ old)
   pub after : own' ≡ (if is_some result then own_after k c (others ++ old) s own else own)
-  pub answers : MatchOption result (Unit {0}) (λ answer. answer_to k (others ++ old) s ≡ Some answer)
+  pub answers : MatchOption result (Unit {0})
+      (λ answer. answer_to k (others ++ old) s ≡ Some answer)
   pub at_once : IsLocal s → IsSome result
 
 -- what a poll leaves: the CPU's own threads, and the result if there is one
@@ -93,7 +112,8 @@ abbrev pub sched_left : {A : Type 0} → Threads → Option A → Left Threads A
 sched_left own answer = record { own = own; answer = answer }
 
 -- what the result of the shared queues makes of a CPU's own threads
-abbrev pub own_by : {E O : Type 0} → MoveRules E O → List CpuId → CpuId → QueueAnswer O → Threads → Threads
+abbrev pub own_by : {E O : Type 0} → MoveRules E O → List CpuId → CpuId → QueueAnswer O → Threads
+    → Threads
 own_by mv homes c told.Done own = passed_on own
 own_by mv homes c (told.Taken queue) own = took_pending queue own
 own_by mv homes c (told.Answer out) own = own_answered mv homes c (Some out) own
@@ -105,9 +125,11 @@ answer_by (told.Taken queue) = Done
 answer_by (told.Answer out) = Answer out
 
 -- what a poll leaves, given what it left at the shared queues
-abbrev pub sched_left_by : {E O : Type 0} → MoveRules E O → List CpuId → CpuId → Threads → Option (QueueAnswer O) → Left Threads (SchedAnswer O)
+abbrev pub sched_left_by : {E O : Type 0} → MoveRules E O → List CpuId → CpuId → Threads
+    → Option (QueueAnswer O) → Left Threads (SchedAnswer O)
 sched_left_by mv homes c own None = sched_left own None
-sched_left_by mv homes c own (Some answer) = sched_left (own_by mv homes c answer own) (Some (answer_by answer))
+sched_left_by mv homes c own (Some answer) =
+    sched_left (own_by mv homes c answer own) (Some (answer_by answer))
 
 -- what the poll of a call that touches nothing shared leaves
 abbrev pub left_local : {E O : Type 0} → SchedCall E → Threads → Left Threads (SchedAnswer O)
@@ -115,11 +137,14 @@ left_local (call.Pass p) own = sched_left (pass_after p [] own) (Some Done)
 left_local (call.OnBuffer b e) own = sched_left own None
 
 -- the plan of a call, given its call at the shared queues
-abbrev pub plan_by : {E O : Type 0} → MoveRules E O → List CpuId → CpuId → SchedCall E → Threads → Option (QueueCall E)
+abbrev pub plan_by : {E O : Type 0} → MoveRules E O → List CpuId → CpuId → SchedCall E → Threads
+    → Option (QueueCall E)
     → Plan (QueueEdit E) (QueueAnswer O) Threads (SchedAnswer O)
 plan_by mv homes c s own None = Now (left_local s own)
-plan_by mv homes c s own (Some q) = raised (λ l. sched_left_by mv homes c own l.answer) (queue_plan q)
+plan_by mv homes c s own (Some q) =
+    raised (λ l. sched_left_by mv homes c own l.answer) (queue_plan q)
 
 -- the plan of a scheduler's call
-abbrev pub sched_plan : {E O : Type 0} → MoveRules E O → List CpuId → CpuId → SchedCall E → Threads → Plan (QueueEdit E) (QueueAnswer O) Threads (SchedAnswer O)
+abbrev pub sched_plan : {E O : Type 0} → MoveRules E O → List CpuId → CpuId → SchedCall E → Threads
+    → Plan (QueueEdit E) (QueueAnswer O) Threads (SchedAnswer O)
 sched_plan mv homes c s own = plan_by mv homes c s own (queue_call homes c s)

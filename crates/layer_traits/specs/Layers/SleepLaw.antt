@@ -1,17 +1,26 @@
 -- What one poll of a sleeping layer adds to the history, and what it leaves of the part's private
 -- state.
-use Rattle.std.specs.Prelude.{◌≡◌, Bool, not, ◌&&◌, List, ◌∷◌, ◌++◌, Option, Some, None, IsSome, option_map, is_some, if◌then◌else◌}
-use Rattle.event_log.specs.{declared.ids.{BufId.BufId, CpuId.CpuId, LockId.LockId, Tid.Tid}, History.AreForeign}
-use Rattle.layer_traits.specs.declared.{queue_edits.{QueueBlock.QueueBlock, QueueEdit.QueueEdit, QueueAnswer.QueueAnswer}, queues.QueueCall.TheVariants.Push}
-use Rattle.layer_traits.specs.declared.{queues.{QueueCall.TheVariants.OnBuffer, QueueEvent.QueueEvent}, passes.Pass.{Pass, TheVariants.MakeReady}}
-use Rattle.layer_traits.specs.declared.{sleeps.Outcome.Outcome, scheds.{SchedAnswer.{SchedAnswer, TheVariants.{Done, Answer}}, SchedCall.SchedCall}}
-use Rattle.layer_traits.specs.{Threads.{MoveRules.MoveRules, Passes.{queue_for, passed_on}, Places.Threads}, Polling.Plans.{Left, Plan, raised}}
-use Rattle.layer_traits.specs.Layers.{Queues.{Kernel, kernel, event, cpu_of_queue_event, out_at}, Scheds.{EditStays, own_answered, sched_plan}}
-use Rattle.layer_traits.specs.Layers.Sleeping.{SleepRules, SleepState, sleep_rules, sleep_moves}
+use Rattle.std.specs.Prelude.{◌≡◌, Bool, not, ◌&&◌, List, ◌∷◌, ◌++◌, Option, Some, None, IsSome}
+use Rattle.std.specs.Prelude.{option_map, is_some, if◌then◌else◌}
+use Rattle.event_log.specs.declared.ids.{BufId.BufId, CpuId.CpuId, LockId.LockId, Tid.Tid}
+use Rattle.event_log.specs.History.{AreForeign}
+use Rattle.layer_traits.specs.declared.queue_edits.{QueueBlock.QueueBlock, QueueEdit.QueueEdit}
+use Rattle.layer_traits.specs.declared.queue_edits.QueueAnswer.{QueueAnswer}
+use Rattle.layer_traits.specs.declared.queues.QueueCall.TheVariants.{Push, OnBuffer}
+use Rattle.layer_traits.specs.declared.{queues.QueueEvent.QueueEvent, passes.Pass.Pass}
+use Rattle.layer_traits.specs.declared.{passes.Pass.TheVariants.MakeReady, sleeps.Outcome.Outcome}
+use Rattle.layer_traits.specs.declared.scheds.SchedAnswer.{SchedAnswer, TheVariants.{Done, Answer}}
+use Rattle.layer_traits.specs.{declared.scheds.SchedCall.SchedCall, Threads.MoveRules.MoveRules}
+use Rattle.layer_traits.specs.Threads.{Passes.{queue_for, passed_on}, Places.Threads}
+use Rattle.layer_traits.specs.{Polling.Plans.{Left, Plan, raised}, Layers.Queues.{Kernel, kernel}}
+use Rattle.layer_traits.specs.Layers.{Queues.{event, cpu_of_queue_event, out_at}, Scheds.EditStays}
+use Rattle.layer_traits.specs.Layers.{Scheds.{own_answered, sched_plan}, Sleeping.SleepRules}
+use Rattle.layer_traits.specs.Layers.Sleeping.{SleepState, sleep_rules, sleep_moves}
 use Rattle.layer_traits.specs.declared.scheds.SchedCall.TheVariants as call
 
 -- all definitions of what the sections of a sleeping layer mean
-abbrev pub sleep_kernel : {E B O : Type 0} → SleepRules E B O → (LockId → Option (QueueBlock (SleepState B))) → Kernel E (SleepState B) (Outcome O)
+abbrev pub sleep_kernel : {E B O : Type 0} → SleepRules E B O
+    → (LockId → Option (QueueBlock (SleepState B))) → Kernel E (SleepState B) (Outcome O)
 sleep_kernel rules opening = kernel (sleep_rules rules) (sleep_moves rules) opening
 
 -- a part's private state: its threads, and the deferred outcome, that of a section that returns
@@ -22,7 +31,8 @@ pub record Sleeping (O : Type 0) : Type 0 where
 
 -- a section may begin: its caller runs here, the CPU's hand is empty, and it is allowed and stays
 -- so
-pub record MaySleep {E B O : Type 0} (k : Kernel E B O) (c : CpuId) (past : List (QueueEvent E)) (own : Threads) (b : BufId) (e : E) : Type 0 where
+pub record MaySleep {E B O : Type 0} (k : Kernel E B O) (c : CpuId) (past : List (QueueEvent E))
+    (own : Threads) (b : BufId) (e : E) : Type 0 where
   pub current : own.current ≡ Some (k.moves.caller e)
   pub hand : own.hand ≡ None
   pub stays : EditStays k c past (call.OnBuffer b e)
@@ -67,13 +77,20 @@ module _ {E B O : Type 0} (k : Kernel E B (Outcome O)) (c : CpuId) (b : BufId) (
   -- what a poll result leaves
   abbrev pub left_with : PollResult O → Sleeping O → Left (Sleeping O) (Outcome O)
   left_with WaitsStill own = record { own = own; answer = None }
-  left_with (Does outcome) own = left_done outcome (own_answered k.moves k.homes c (Some outcome) own.threads)
-  left_with (SendsHome t) own = record { own = record { threads = passed_on own.threads; deferred = None }; answer = own.deferred }
+  left_with (Does outcome) own =
+      left_done outcome (own_answered k.moves k.homes c (Some outcome) own.threads)
+  left_with (SendsHome t) own =
+      record {
+        own = record { threads = passed_on own.threads; deferred = None };
+        answer = own.deferred;
+      }
 
 -- a poll of a section: environment events are first, then at most one poll result, which leaves
 -- this
-pub record SleepPolled {E B O : Type 0} (k : Kernel E B (Outcome O)) (ActsFor : CpuId → Type 0) (c : CpuId) (b : BufId) (e : E)
-    (old new : List (QueueEvent E)) (own : Sleeping O) (got : Left (Sleeping O) (Outcome O)) : Type 0 where
+pub record SleepPolled {E B O : Type 0} (k : Kernel E B (Outcome O)) (ActsFor : CpuId → Type 0)
+    (c : CpuId) (b : BufId) (e : E)
+    (old new : List (QueueEvent E)) (own : Sleeping O) (got : Left (Sleeping O) (Outcome O)) : Type
+    0 where
   pub others : List (QueueEvent E)
   pub foreign : AreForeign ActsFor cpu_of_queue_event others
   pub poll_result : PollResult O
@@ -87,28 +104,41 @@ due None b e = call.OnBuffer b e
 due (Some t) b e = call.Pass (MakeReady t)
 
 -- what the scheduler's result leaves, if this outcome is deferred and the threads are now these
-abbrev pub left_reported : {O : Type 0} → Option (Outcome O) → Threads → Option (SchedAnswer (Outcome O)) → Left (Sleeping O) (Outcome O)
-left_reported deferred threads None = record { own = record { threads = threads; deferred = deferred }; answer = None }
-left_reported deferred threads (Some Done) = record { own = record { threads = threads; deferred = None }; answer = deferred }
+abbrev pub left_reported : {O : Type 0} → Option (Outcome O) → Threads
+    → Option (SchedAnswer (Outcome O)) → Left (Sleeping O) (Outcome O)
+left_reported deferred threads None =
+    record { own = record { threads = threads; deferred = deferred }; answer = None }
+left_reported deferred threads (Some Done) =
+    record { own = record { threads = threads; deferred = None }; answer = deferred }
 left_reported deferred threads (Some (Answer outcome)) = left_done outcome threads
 
 -- the plan of a section's poll: that of the call which is due on the scheduler
-abbrev pub sleep_plan : {E O : Type 0} → MoveRules E (Outcome O) → List CpuId → CpuId → BufId → E → Sleeping O
+abbrev pub sleep_plan : {E O : Type 0} → MoveRules E (Outcome O) → List CpuId → CpuId → BufId → E
+    → Sleeping O
     → Plan (QueueEdit E) (QueueAnswer (Outcome O)) (Sleeping O) (Outcome O)
-sleep_plan mv homes c b e own = raised (λ l. left_reported own.deferred l.own l.answer) (sched_plan mv homes c (due own.threads.hand b e) own.threads)
+sleep_plan mv homes c b e own =
+    raised (λ l. left_reported own.deferred l.own l.answer)
+    (sched_plan mv homes c (due own.threads.hand b e) own.threads)
 
 -- the scheduler's result of a call that is passed down
 abbrev pub done_if : {O : Type 0} → Option (Unit {0}) → Option (SchedAnswer O)
 done_if result = option_map (λ u. Done) result
 
 -- what a call that is passed down leaves
-abbrev pub left_passed : {O A : Type 0} → Option (Outcome O) → Left Threads A → Left (Sleeping O) (Unit {0})
-left_passed deferred l = record { own = record { threads = l.own; deferred = deferred }; answer = option_map (λ a. tt) l.answer }
+abbrev pub left_passed : {O A : Type 0} → Option (Outcome O) → Left Threads A
+    → Left (Sleeping O) (Unit {0})
+left_passed deferred l =
+    record {
+      own = record { threads = l.own; deferred = deferred };
+      answer = option_map (λ a. tt) l.answer;
+    }
 
 -- the plan of a call that is passed down
-abbrev pub pass_plan : {E O : Type 0} → MoveRules E (Outcome O) → List CpuId → CpuId → Pass → Sleeping O
+abbrev pub pass_plan : {E O : Type 0} → MoveRules E (Outcome O) → List CpuId → CpuId → Pass
+    → Sleeping O
     → Plan (QueueEdit E) (QueueAnswer (Outcome O)) (Sleeping O) (Unit {0})
-pass_plan mv homes c p own = raised (left_passed own.deferred) (sched_plan mv homes c (call.Pass p) own.threads)
+pass_plan mv homes c p own =
+    raised (left_passed own.deferred) (sched_plan mv homes c (call.Pass p) own.threads)
 
 -- why the poll of a whole machine returns no result: the section was done in it, and its woken
 -- thread must now be forwarded to its home CPU

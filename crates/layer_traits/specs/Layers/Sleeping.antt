@@ -1,11 +1,15 @@
 -- The waiting lists of a lock, and what a section makes of them: which thread leaves one, and which
 -- its caller joins.
-use Rattle.std.specs.Prelude.{◌≡◌, ◌<◌, not, ◌&&◌, nat_lt, List, [], ◌∷◌, ◌++◌, Option, Some, None, is_some, if◌then◌else◌}
-use Rattle.event_log.specs.{declared.ids.{LockId.LockId, TheConstants.THREADS, Tid.Tid}, Sections.Section}
-use Rattle.layer_traits.specs.declared.{moves.WaitList.{WaitList, TheVariants.{Sleepers, Receivers, Senders}}, sleeps.Wake.{Wake, TheVariants.Nobody}}
-use Rattle.layer_traits.specs.{declared.sleeps.{Wake.TheVariants.{FirstSleeper, Receiver, Sender}, Outcome.Outcome}, Threads.MoveRules.MoveRules}
-use Rattle.{layer_traits.specs.{Threads.MoveRules.{section_moves, asleep_by}, Protocols.Protocol.Rules}, thread_blocks.specs.Queues.{is_in, first, rest}}
-use Rattle.thread_blocks.specs.Queues.{without}
+use Rattle.std.specs.Prelude.{◌≡◌, ◌<◌, not, ◌&&◌, nat_lt, List, [], ◌∷◌, ◌++◌, Option, Some, None}
+use Rattle.std.specs.Prelude.{is_some, if◌then◌else◌}
+use Rattle.event_log.specs.declared.ids.{LockId.LockId, TheConstants.THREADS, Tid.Tid}
+use Rattle.{event_log.specs.Sections.Section, layer_traits.specs.declared.moves.WaitList.WaitList}
+use Rattle.layer_traits.specs.declared.moves.WaitList.TheVariants.{Sleepers, Receivers, Senders}
+use Rattle.layer_traits.specs.declared.sleeps.Wake.{Wake, TheVariants.{Nobody, FirstSleeper}}
+use Rattle.layer_traits.specs.declared.sleeps.{Wake.TheVariants.{Receiver, Sender}, Outcome.Outcome}
+use Rattle.layer_traits.specs.Threads.MoveRules.{MoveRules, section_moves, asleep_by}
+use Rattle.{layer_traits.specs.Protocols.Protocol.Rules, thread_blocks.specs.Queues.{is_in, first}}
+use Rattle.thread_blocks.specs.Queues.{rest, without}
 
 -- the block of a lock with its waiting lists, each with its first in front
 pub record SleepState (B : Type 0) : Type 0 where
@@ -85,7 +89,8 @@ module _ {E B O : Type 0} (rules : SleepRules E B O) where
   -- this waiting list after a section: the thread that leaves has left, and then the caller joins
   abbrev pub wait_list_after : WaitList → E → SleepState B → List Tid → List Tid
   wait_list_after line e state queue =
-      wait_list_joined line (rules.joins (answer_above e state)) (rules.caller e) (left line (rules.leaves (answer_above e state)) queue)
+      wait_list_joined line (rules.joins (answer_above e state)) (rules.caller e)
+      (left line (rules.leaves (answer_above e state)) queue)
 
   -- the block that a section leaves
   abbrev pub sleep_edited : E → SleepState B → SleepState B
@@ -98,7 +103,8 @@ module _ {E B O : Type 0} (rules : SleepRules E B O) where
 
   -- which thread a section wakes
   abbrev pub sleep_woke : E → SleepState B → Option Tid
-  sleep_woke e state = woken_by (rules.leaves (answer_above e state)) state.sleepers state.receivers state.senders
+  sleep_woke e state =
+      woken_by (rules.leaves (answer_above e state)) state.sleepers state.receivers state.senders
 
   -- a section's outcome
   abbrev pub sleep_answer : E → SleepState B → Outcome O
@@ -114,14 +120,21 @@ module _ {E B O : Type 0} (rules : SleepRules E B O) where
 
   -- how they move threads
   abbrev pub sleep_moves : MoveRules E (Outcome O)
-  sleep_moves = record { caller = rules.caller; slept = λ outcome. rules.joins outcome.out; woke = λ outcome. outcome.woke }
+  sleep_moves =
+      record {
+        caller = rules.caller;
+        slept = λ outcome. rules.joins outcome.out;
+        woke = λ outcome. outcome.woke;
+      }
 
 -- no lock's waiting lists hold a thread
 abbrev pub NobodySleeps : {B : Type 0} → (LockId → Option (SleepState B)) → Type 0
 NobodySleeps opening = (lock : LockId) (line : WaitList) → wait_list_at line (opening lock) ≡ []
 
 -- the caller of a section is a thread of the machine and does not sleep after these sections
-pub record IsAwake {E B O : Type 0} (rules : SleepRules E B O) (opening : LockId → Option (SleepState B))
+pub record IsAwake {E B O : Type 0} (rules : SleepRules E B O)
+    (opening : LockId → Option (SleepState B))
     (past : List (Section E)) (s : Section E) : Type 0 where
-  pub awake : asleep_by (section_moves (sleep_rules rules) (sleep_moves rules) opening past) (rules.caller s.edit) ≡ None
+  pub awake : asleep_by (section_moves (sleep_rules rules) (sleep_moves rules) opening past)
+      (rules.caller s.edit) ≡ None
   pub small : (rules.caller s.edit).0 < THREADS

@@ -5,7 +5,8 @@ use Rattle.event_log.specs.declared.ids.{CpuId.CpuId, LockId.LockId}
 
 -- the machine m became n. The opening blocks and the machine are the same, and there is room for at
 -- most one event less. Its holder still acts for each CPU for which it acted
-pub record Stays {M B : Type 0} (opening_of : M → LockId → Option B) (site_of : M → List ℕ) (room_of : M → ℕ) (ActsFor : M → CpuId → Type 0)
+pub record Stays {M B : Type 0} (opening_of : M → LockId → Option B) (site_of : M → List ℕ)
+    (room_of : M → ℕ) (ActsFor : M → CpuId → Type 0)
     (m n : M) : Type 0 where
   pub opening : opening_of n ≡ opening_of m
   pub site : site_of n ≡ site_of m
@@ -15,7 +16,8 @@ pub record Stays {M B : Type 0} (opening_of : M → LockId → Option B) (site_o
 -- a call of a part: part and machine agree again, the part is that of the same CPU, and the machine
 -- stays. The parts of all other CPUs still agree with it, and no other CPU for which its holder
 -- acts begins to hold a lock
-pub record Framed {P M B : Type 0} (Fits : P → M → Type 0) (cpu_of : P → CpuId) (opening_of : M → LockId → Option B) (site_of : M → List ℕ)
+pub record Framed {P M B : Type 0} (Fits : P → M → Type 0) (cpu_of : P → CpuId)
+    (opening_of : M → LockId → Option B) (site_of : M → List ℕ)
     (room_of : M → ℕ) (ActsFor MayHold : M → CpuId → Type 0) (old new : P) (m n : M) : Type 0 where
   pub fits : Fits new n
   pub cpu : cpu_of new ≡ cpu_of old

@@ -1,10 +1,12 @@
 -- What one more poll of the lock by a waiting section adds to the actions. It is the same at every
 -- height, since it names no edit, no result and no table.
 use Rattle.std.specs.Prelude.{◌≡◌, List, ◌∷◌, ◌++◌, ◌==◌}
-use Rattle.event_log.specs.{declared.ids.{CpuId.CpuId, LockId.LockId}, History.AreForeign, Actions.{Action, Try, Waits, cpu_of_action, gives, phase, spot_of}}
+use Rattle.event_log.specs.{declared.ids.{CpuId.CpuId, LockId.LockId}, History.AreForeign}
+use Rattle.event_log.specs.Actions.{Action, Try, Waits, cpu_of_action, gives, phase, spot_of}
 
 -- environment actions are first, and then this CPU, which waits at a lock, tried to enter it
-pub record Tries {N : Type 0} (ActsFor : CpuId → Type 0) (cpu : CpuId) (old new : List (Action N)) : Type 0 where
+pub record Tries {N : Type 0} (ActsFor : CpuId → Type 0) (cpu : CpuId)
+    (old new : List (Action N)) : Type 0 where
   pub others : List (Action N)
   pub foreign : AreForeign ActsFor cpu_of_action others
   pub past : List (Action N)

@@ -2,8 +2,10 @@
 -- it means that a poll followed its plan. The history below determines the phase of a CPU: a plan
 -- names a section and no phase.
 use Rattle.std.specs.Prelude.{◌≡◌, Bool, true, false, List, ◌∷◌, ◌++◌, Option, None, option_map}
-use Rattle.event_log.specs.{declared.ids.{CpuId.CpuId, LockId.LockId}, History.AreForeign, Actions.{Action, Phase, Rests, Waits, Holds, cpu_of_action, phase}}
-use Rattle.{event_log.specs.{Actions.next_action, Sections.{block_after, sections_in}}, layer_traits.specs.Protocols.Protocol.Rules}
+use Rattle.event_log.specs.{declared.ids.{CpuId.CpuId, LockId.LockId}, History.AreForeign}
+use Rattle.event_log.specs.Actions.{Action, Phase, Rests, Waits, Holds, cpu_of_action, phase}
+use Rattle.event_log.specs.{Actions.next_action, Sections.{block_after, sections_in}}
+use Rattle.layer_traits.specs.Protocols.Protocol.{Rules}
 
 -- what the names of sections mean: the block that a section leaves, and its result
 pub record Table (N B R : Type 0) : Type 0 where
@@ -39,28 +41,36 @@ at_give (Holds lock) answer = answer
 
 -- the result of the next action of a CPU, after this past: at a Give the result of its section on
 -- the block that the past leaves
-abbrev pub reply : {N B R : Type 0} → Table N B R → (LockId → Option B) → CpuId → LockId → N → List (Action N) → Option R
-reply table opening cpu lock name past = at_give (phase cpu past) (option_map (table.answer name) (block_after table.edited opening lock (sections_in past)))
+abbrev pub reply : {N B R : Type 0} → Table N B R → (LockId → Option B) → CpuId → LockId → N
+    → List (Action N) → Option R
+reply table opening cpu lock name past =
+    at_give (phase cpu past)
+    (option_map (table.answer name) (block_after table.edited opening lock (sections_in past)))
 
 -- one action was done: environment actions are first, then the one that was due to this CPU
-pub record Acted {N : Type 0} (ActsFor : CpuId → Type 0) (cpu : CpuId) (lock : LockId) (name : N) (old new past : List (Action N)) : Type 0 where
+pub record Acted {N : Type 0} (ActsFor : CpuId → Type 0) (cpu : CpuId) (lock : LockId) (name : N)
+    (old new past : List (Action N)) : Type 0 where
   pub others : List (Action N)
   pub foreign : AreForeign ActsFor cpu_of_action others
   pub joined : past ≡ others ++ old
   pub grows : new ≡ next_action cpu lock name past ∷ past
 
 -- one action was done, and the poll left what its plan makes of that action's result
-pub record Acting {N B R S A : Type 0} (ActsFor : CpuId → Type 0) (table : Table N B R) (opening : LockId → Option B) (cpu : CpuId) (lock : LockId)
-    (name : N) (react : Option R → Left S A) (old new : List (Action N)) (got : Left S A) : Type 0 where
+pub record Acting {N B R S A : Type 0} (ActsFor : CpuId → Type 0) (table : Table N B R)
+    (opening : LockId → Option B) (cpu : CpuId) (lock : LockId)
+    (name : N) (react : Option R → Left S A) (old new : List (Action N)) (got : Left S A) : Type
+    0 where
   pub past : List (Action N)
   pub acted : Acted ActsFor cpu lock name old new past
   pub moves : got ≡ react (reply table opening cpu lock name past)
 
 -- a poll followed its plan: the actions grew from old to new, and it left this
-abbrev pub Follows : {N B R S A : Type 0} → (CpuId → Type 0) → Table N B R → (LockId → Option B) → CpuId → Plan N R S A
+abbrev pub Follows : {N B R S A : Type 0} → (CpuId → Type 0) → Table N B R → (LockId → Option B)
+    → CpuId → Plan N R S A
     → List (Action N) → List (Action N) → Left S A → Type 0
 Follows ActsFor table opening cpu (Now left) old new got = (new ≡ old) × (got ≡ left)
-Follows ActsFor table opening cpu (Act lock name react) old new got = Acting ActsFor table opening cpu lock name react old new got
+Follows ActsFor table opening cpu (Act lock name react) old new got =
+    Acting ActsFor table opening cpu lock name react old new got
 
 -- what a part without private state leaves: only the result
 abbrev pub answered : {A : Type 0} → Option A → Left (Unit {0}) A

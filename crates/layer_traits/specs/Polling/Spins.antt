@@ -1,6 +1,8 @@
 -- What consecutive failed polls leave: only the log has changed, and no other CPU has acted.
-use Rattle.std.specs.Prelude.{◌≡◌, ℕ, ◌+◌, ◌<◌, ◌≤◌, false, List, ◌++◌, Option, length, replicate, take}
-use Rattle.event_log.specs.{declared.ids.CpuId.CpuId, declared.ids.LockId.LockId, Actions.Action, Actions.Try, Actions.Waits, Actions.phase}
+use Rattle.std.specs.Prelude.{◌≡◌, ℕ, ◌+◌, ◌<◌, ◌≤◌, false, List, ◌++◌, Option, length, replicate}
+use Rattle.std.specs.Prelude.{take}
+use Rattle.event_log.specs.{declared.ids.{CpuId.CpuId, LockId.LockId}, Actions.{Action, Try, Waits}}
+use Rattle.event_log.specs.Actions.{phase}
 
 -- the steps begin with so many of this CPU
 pub record BeginWith (cpu : CpuId) (looks : ℕ) (steps : List CpuId) : Type 0 where
@@ -10,7 +12,8 @@ pub record BeginWith (cpu : CpuId) (looks : ℕ) (steps : List CpuId) : Type 0 w
 -- so many failed polls took the machine m to n: the same opening blocks, the same machine, the same
 -- events, and room for all events except theirs. The machine's holder acts for each CPU for which
 -- it acted, each part that agreed with the machine still does, and no CPU begins to hold a lock
-pub record Spun {P M B E : Type 0} (Fits : P → M → Type 0) (opening_of : M → LockId → Option B) (site_of : M → List ℕ) (seen_of : M → List E)
+pub record Spun {P M B E : Type 0} (Fits : P → M → Type 0) (opening_of : M → LockId → Option B)
+    (site_of : M → List ℕ) (seen_of : M → List E)
     (room_of : M → ℕ) (ActsFor MayHold : M → CpuId → Type 0) (looks : ℕ) (m n : M) : Type 0 where
   pub opening : opening_of n ≡ opening_of m
   pub site : site_of n ≡ site_of m

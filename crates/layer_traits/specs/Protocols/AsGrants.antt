@@ -1,15 +1,18 @@
 -- A words log, translated into the log of grant words that says the same: each request, poll and
 -- release of the one is one of the other.
 use Rattle.std.specs.Prelude.{◌≡◌, ◌%◌, List, [], ◌∷◌}
-use Rattle.event_log.specs.declared.{ids.{CpuId.CpuId, TheConstants.CPUS}, events.Event.{Event, TheVariants.{Draw, Look, Free}}, grants.GrantEvent.GrantEvent}
-use Rattle.event_log.specs.{declared.grants.GrantEvent.TheVariants.{Take, Peek, Give}, Actions.acts_of, Grants.{IsLegalGrants, acts_of_grants}}
+use Rattle.event_log.specs.declared.{ids.{CpuId.CpuId, TheConstants.CPUS}, events.Event.Event}
+use Rattle.event_log.specs.declared.events.Event.TheVariants.{Draw, Look, Free}
+use Rattle.event_log.specs.declared.grants.GrantEvent.{GrantEvent, TheVariants.{Take, Peek, Give}}
+use Rattle.event_log.specs.{Actions.acts_of, Grants.{IsLegalGrants, acts_of_grants}}
 use Rattle.event_log.specs.{Grants.{grant_lock_phase, grant_word}, WordsLog.lock_phase}
 
 -- an event after this translated past: a Peek reads what the Gives before it left in its ticket's
 -- word
 abbrev pub as_grant : {M : Type 0} → Event M → List (GrantEvent M) → GrantEvent M
 as_grant (Draw cpu lock ticket) past = Take cpu lock ticket
-as_grant (Look cpu lock ticket read) past = Peek cpu lock ticket (grant_word lock (ticket % CPUS) past)
+as_grant (Look cpu lock ticket read) past =
+    Peek cpu lock ticket (grant_word lock (ticket % CPUS) past)
 as_grant (Free cpu lock mark) past = Give cpu lock mark
 
 -- the same log in terms of grant words

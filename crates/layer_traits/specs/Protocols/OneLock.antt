@@ -1,7 +1,9 @@
 -- The stored block of one lock, in terms of a words log; the opening blocks as a list.
-use Rattle.std.specs.Prelude.{◌≡◌, ℕ, false, List, [], ◌∷◌, Option, Some, None, MatchOption, if◌then◌else◌}
-use Rattle.event_log.specs.{declared.{ids.{CpuId.CpuId, LockId.LockId}, events.Event.Event}, History.same_lock, WordsLog.{lock_phase, Holding}}
-use Rattle.{event_log.specs.Sections.block_after, layer_traits.specs.{declared.edits.Mark.Mark, Protocols.WordsProtocol.sections}}
+use Rattle.std.specs.Prelude.{◌≡◌, ℕ, false, List, [], ◌∷◌, Option, Some, None, MatchOption}
+use Rattle.std.specs.Prelude.{if◌then◌else◌}
+use Rattle.event_log.specs.declared.{ids.{CpuId.CpuId, LockId.LockId}, events.Event.Event}
+use Rattle.event_log.specs.{History.same_lock, WordsLog.{lock_phase, Holding}, Sections.block_after}
+use Rattle.layer_traits.specs.{declared.edits.Mark.Mark, Protocols.WordsProtocol.sections}
 
 -- some CPU is inside this lock
 abbrev pub SomeoneInside : {M : Type 0} → LockId → List (Event M) → Type 0
@@ -13,9 +15,11 @@ NobodyInside lock log = (cpu : CpuId) (ticket : ℕ) → lock_phase cpu log ≡ 
 
 -- the machine's store for a lock's block is empty exactly while a CPU is inside; otherwise it has
 -- the block that the sections leave
-abbrev pub HomeFits : {E B : Type 0} → (E → B → B) → (LockId → Option B) → List (Event (Mark E)) → LockId → Option B → Type 0
+abbrev pub HomeFits : {E B : Type 0} → (E → B → B) → (LockId → Option B) → List (Event (Mark E))
+    → LockId → Option B → Type 0
 HomeFits edited opening log lock home =
-    MatchOption home (SomeoneInside lock log) (λ block. NobodyInside lock log × (block_after edited opening lock (sections log) ≡ Some block))
+    MatchOption home (SomeoneInside lock log)
+    (λ block. NobodyInside lock log × (block_after edited opening lock (sections log) ≡ Some block))
 
 -- the opening block of a lock in a list of locks with their blocks; None if the lock is not in the
 -- list

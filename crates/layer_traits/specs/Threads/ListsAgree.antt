@@ -1,11 +1,17 @@
 -- The waiting lists of the locks agree with the places of the threads, by count. A thread is once
 -- in the waiting list in which it sleeps, and in no other.
 use Rattle.std.specs.Prelude.{◌≡◌, Bool, true, false, ◌&&◌, List, Option, Some, None}
-use Rattle.event_log.specs.{declared.ids.{CpuId.CpuId, LockId.LockId, Tid.Tid}, History.same_lock, Sections.block_after}
-use Rattle.layer_traits.specs.declared.{moves.WaitList.{WaitList, TheVariants.{Sleepers, Receivers, Senders}}, queue_edits.QueueBlock.QueueBlock}
-use Rattle.layer_traits.specs.{declared.queues.QueueEvent.QueueEvent, Threads.Places.{At, Stands, Threads, WaitChannel, one_if, count_in, wait_channel_of}}
-use Rattle.layer_traits.specs.{Threads.Places.where_is, Blocks.QueueBlocks.{inner, homes_in}, Layers.{Queues.{buffer_sections, moves_in}, Sleeping.SleepRules}}
-use Rattle.layer_traits.specs.Layers.{Sleeping.{SleepState, wait_list_at, sleep_edited}, SleepLaw.sleep_kernel}
+use Rattle.event_log.specs.{declared.ids.{CpuId.CpuId, LockId.LockId, Tid.Tid}, History.same_lock}
+use Rattle.event_log.specs.Sections.{block_after}
+use Rattle.layer_traits.specs.declared.moves.WaitList.{WaitList, TheVariants.{Sleepers, Receivers}}
+use Rattle.layer_traits.specs.declared.moves.WaitList.TheVariants.{Senders}
+use Rattle.layer_traits.specs.declared.queue_edits.QueueBlock.{QueueBlock}
+use Rattle.layer_traits.specs.{declared.queues.QueueEvent.QueueEvent, Threads.Places.{At, Stands}}
+use Rattle.layer_traits.specs.Threads.Places.{Threads, WaitChannel, one_if, count_in}
+use Rattle.layer_traits.specs.{Threads.Places.{wait_channel_of, where_is}, Blocks.QueueBlocks.inner}
+use Rattle.layer_traits.specs.{Blocks.QueueBlocks.homes_in, Layers.Queues.buffer_sections}
+use Rattle.layer_traits.specs.Layers.{Queues.moves_in, Sleeping.{SleepRules, SleepState}}
+use Rattle.layer_traits.specs.Layers.{Sleeping.{wait_list_at, sleep_edited}, SleepLaw.sleep_kernel}
 
 -- whether two waiting lists are one
 abbrev pub same_list : WaitList → WaitList → Bool
@@ -26,17 +32,22 @@ is_at lock line (Some (At other at)) = same_lock other lock && same_list at line
 
 -- the lists of one lock agree with the wait channels on which threads sleep
 abbrev pub Agrees : LockId → (WaitList → List Tid) → (Tid → Option WaitChannel) → Type 0
-Agrees lock lines asleep = (line : WaitList) (t : Tid) → count_in t (lines line) ≡ one_if (is_at lock line (asleep t))
+Agrees lock lines asleep =
+    (line : WaitList) (t : Tid) → count_in t (lines line) ≡ one_if (is_at lock line (asleep t))
 
 -- the lists of each lock agree with the places of the threads
-abbrev pub ListsAgree : {E B O : Type 0} → SleepRules E B O → (LockId → Option (QueueBlock (SleepState B))) → List (QueueEvent E) → Type 0
+abbrev pub ListsAgree : {E B O : Type 0} → SleepRules E B O
+    → (LockId → Option (QueueBlock (SleepState B))) → List (QueueEvent E) → Type 0
 ListsAgree rules opening seen = (lock : LockId) →
-    Agrees lock (λ line. wait_list_at line (block_after (sleep_edited rules) (inner opening) lock (buffer_sections seen)))
-    (λ t. wait_channel_of (where_is (homes_in opening) (moves_in (sleep_kernel rules opening) seen) t))
+    Agrees lock (λ line. wait_list_at line
+    (block_after (sleep_edited rules) (inner opening) lock (buffer_sections seen)))
+    (λ t. wait_channel_of (where_is (homes_in opening) (moves_in (sleep_kernel rules opening) seen)
+    t))
 
 -- the places of a part's threads are at its CPU, each once and no other, and the lists of each lock
 -- agree with the places
-pub record SleepAgrees {E B O : Type 0} (rules : SleepRules E B O) (opening : LockId → Option (QueueBlock (SleepState B))) (c : CpuId)
+pub record SleepAgrees {E B O : Type 0} (rules : SleepRules E B O)
+    (opening : LockId → Option (QueueBlock (SleepState B))) (c : CpuId)
     (seen : List (QueueEvent E)) (own : Threads) : Type 0 where
   pub stands : Stands (homes_in opening) c (moves_in (sleep_kernel rules opening) seen) own
   pub lists : ListsAgree rules opening seen

@@ -1,7 +1,8 @@
 -- Each thread has exactly one place: over all CPUs, how often a thread runs or is ready, is in a
 -- hand, is pending, sleeps or has ended.
 use Rattle.std.specs.Prelude.{◌≡◌, ℕ, zero, suc, ◌+◌, ◌<◌, List, Some, is_some}
-use Rattle.{event_log.specs.declared.ids.{CpuId.CpuId, Tid.Tid}, layer_traits.specs.Threads.Places.{Step, Threads, Stands, AreMoves, home_of, is_thread}}
+use Rattle.event_log.specs.declared.ids.{CpuId.CpuId, Tid.Tid}
+use Rattle.layer_traits.specs.Threads.Places.{Step, Threads, Stands, AreMoves, home_of, is_thread}
 use Rattle.layer_traits.specs.Threads.Places.{is_asleep, where_is, pending_by, one_if, count_in}
 
 -- the sum of f over the numbers below n
@@ -32,7 +33,8 @@ over own n t = total (λ k. count_in t (own k).ended) n
 -- all of a machine agrees with the places. Each home is one of its n CPUs, the moves are allowed,
 -- and each CPU's private state agrees with the places. A thread is among the sleepers as often as
 -- its place says
-pub record AllStand (homes : List CpuId) (n : ℕ) (moves : List Step) (own : ℕ → Threads) (sleeping : Tid → ℕ) : Type 0 where
+pub record AllStand (homes : List CpuId) (n : ℕ) (moves : List Step) (own : ℕ → Threads)
+    (sleeping : Tid → ℕ) : Type 0 where
   pub homes_within : (t : Tid) (home : CpuId) → home_of homes t ≡ Some home → home.0 < n
   pub moves_are : AreMoves homes moves
   pub stand : (k : ℕ) → k < n → Stands homes (cpu_at k) moves (own k)
@@ -41,7 +43,8 @@ pub record AllStand (homes : List CpuId) (n : ℕ) (moves : List Step) (own : �
 -- a thread that exists occurs once among all places, and one that does not exist occurs nowhere
 abbrev pub InOnePlace : List CpuId → ℕ → List Step → (ℕ → Threads) → (Tid → ℕ) → Tid → Type 0
 InOnePlace homes n moves own sleeping t =
-    running own n t + in_any_hand own n t + pending moves n t + sleeping t + over own n t ≡ one_if (is_some (home_of homes t))
+    running own n t + in_any_hand own n t + pending moves n t + sleeping t + over own n t
+    ≡ one_if (is_some (home_of homes t))
 
 -- if all of a machine agrees with the places, each thread has exactly one of them
 abbrev pub OnePlace : Type 0

@@ -1,9 +1,14 @@
 -- Passes: the scheduling operations of a CPU. What they do to a CPU's own threads and to the
 -- places, where each is allowed, and what one poll of a pass means.
-use Rattle.std.specs.Prelude.{◌≡◌, ◌≢◌, List, [], ◌∷◌, ◌++◌, Option, Some, None, IsSome, is_some, if◌then◌else◌}
-use Rattle.{event_log.specs.{declared.ids.{CpuId.CpuId, Tid.Tid}, History.AreForeign}, thread_blocks.specs.Queues.{first, rest}}
-use Rattle.layer_traits.specs.declared.{moves.WaitList.WaitList, passes.Pass.{Pass, TheVariants.{Switch, YieldNow, Drain, MakeReady, End}}}
-use Rattle.layer_traits.specs.Threads.Places.{Threads, Step, Pushed, Took, step_with, cpu_of_step, home_of, is_cpu, pending_by}
+use Rattle.std.specs.Prelude.{◌≡◌, ◌≢◌, List, [], ◌∷◌, ◌++◌, Option, Some, None, IsSome, is_some}
+use Rattle.std.specs.Prelude.{if◌then◌else◌}
+use Rattle.event_log.specs.{declared.ids.{CpuId.CpuId, Tid.Tid}, History.AreForeign}
+use Rattle.thread_blocks.specs.Queues.{first, rest}
+use Rattle.layer_traits.specs.declared.{moves.WaitList.WaitList, passes.Pass.Pass}
+use Rattle.layer_traits.specs.declared.passes.Pass.TheVariants.{Switch, YieldNow, Drain, MakeReady}
+use Rattle.layer_traits.specs.{declared.passes.Pass.TheVariants.End, Threads.Places.{Threads, Step}}
+use Rattle.layer_traits.specs.Threads.Places.{Pushed, Took, step_with, cpu_of_step, home_of, is_cpu}
+use Rattle.layer_traits.specs.Threads.Places.{pending_by}
 
 -- the home, or this CPU if there is none
 abbrev pub or_else : CpuId → Option CpuId → CpuId
@@ -21,11 +26,18 @@ as_list (Some t) = t ∷ []
 
 -- context switch: the thread at the head of the run queue runs
 abbrev pub switched : Threads → Threads
-switched own = record { current = first own.ready; hand = own.hand; ready = rest own.ready; ended = own.ended }
+switched own =
+    record { current = first own.ready; hand = own.hand; ready = rest own.ready; ended = own.ended }
 
 -- the pending threads join the run queue, and after them the thread that ran
 abbrev pub took_pending : List Tid → Threads → Threads
-took_pending queue own = record { current = None; hand = own.hand; ready = (own.ready ++ queue) ++ as_list own.current; ended = own.ended }
+took_pending queue own =
+    record {
+      current = None;
+      hand = own.hand;
+      ready = (own.ready ++ queue) ++ as_list own.current;
+      ended = own.ended;
+    }
 
 -- the hand is empty: its thread was forwarded
 abbrev pub passed_on : Threads → Threads
@@ -33,12 +45,19 @@ passed_on own = record { current = own.current; hand = None; ready = own.ready; 
 
 -- the thread that ran has ended
 abbrev pub finished : Threads → Threads
-finished own = record { current = None; hand = own.hand; ready = own.ready; ended = own.ended ++ as_list own.current }
+finished own =
+    record {
+      current = None;
+      hand = own.hand;
+      ready = own.ready;
+      ended = own.ended ++ as_list own.current;
+    }
 
 -- the thread that ran has gone to sleep, if it did
 abbrev pub own_slept : Option WaitList → Threads → Threads
 own_slept None own = own
-own_slept (Some line) own = record { current = None; hand = own.hand; ready = own.ready; ended = own.ended }
+own_slept (Some line) own =
+    record { current = None; hand = own.hand; ready = own.ready; ended = own.ended }
 
 -- a thread that this CPU woke is ready if this CPU is its home, and otherwise in the hand
 abbrev pub own_woken : List CpuId → CpuId → Option Tid → Threads → Threads
@@ -87,10 +106,13 @@ IsLocalPass End = Unit {0}
 -- a poll of a pass: environment steps are first, then the pass's own exactly if the poll returns a
 -- result. The CPU's own threads change with it and only then. A pass that touches nothing shared
 -- returns at once
-pub record PassPolled (homes : List CpuId) (ActsFor : CpuId → Type 0) (c : CpuId) (call : Pass) {A : Type 0} (result : Option A) (old new : List Step)
+pub record PassPolled (homes : List CpuId) (ActsFor : CpuId → Type 0) (c : CpuId) (call : Pass)
+    {A : Type 0} (result : Option A) (old new : List Step)
     (own own' : Threads) : Type 0 where
   pub others : List Step
   pub foreign : AreForeign ActsFor cpu_of_step others
-  pub is : new ≡ (if is_some result then pass_steps homes c call ++ (others ++ old) else others ++ old)
-  pub after : own' ≡ (if is_some result then pass_after call (pending_by (others ++ old) c) own else own)
+  pub is : new ≡ (if is_some result then pass_steps homes c call ++ (others ++ old)
+      else others ++ old)
+  pub after : own' ≡ (if is_some result then pass_after call (pending_by (others ++ old) c) own
+      else own)
   pub at_once : IsLocalPass call → IsSome result

@@ -1,8 +1,10 @@
 -- Places: where each thread is, as a function of neutral moves, newest first. A thread exists
 -- exactly if it has a home; no edit, no block and no lock word is named here. A CPU's private
 -- scheduling state agrees with the places by count.
-use Rattle.std.specs.{Prelude.{◌≡◌, ◌≢◌, ℕ, ◌+◌, Bool, true, false, ◌&&◌, List, [], ◌∷◌, ◌++◌, Option, Some, None, MatchOption, if◌then◌else◌}, List.slice_get}
-use Rattle.{event_log.specs.{declared.ids.{CpuId.CpuId, LockId.LockId, Tid.Tid}, History.{same_cpu, IsLawful}}, thread_blocks.specs.Queues.same_tid}
+use Rattle.std.specs.Prelude.{◌≡◌, ◌≢◌, ℕ, ◌+◌, Bool, true, false, ◌&&◌, List, [], ◌∷◌, ◌++◌}
+use Rattle.std.specs.{Prelude.{Option, Some, None, MatchOption, if◌then◌else◌}, List.slice_get}
+use Rattle.event_log.specs.{declared.ids.{CpuId.CpuId, LockId.LockId, Tid.Tid}, History.same_cpu}
+use Rattle.{event_log.specs.History.IsLawful, thread_blocks.specs.Queues.same_tid}
 use Rattle.layer_traits.specs.declared.moves.WaitList.{WaitList}
 
 -- the home of a thread (its CPU affinity), in the list of the homes of all threads; a thread
@@ -77,7 +79,8 @@ abbrev pub where_after : List CpuId → CpuId → Move → Tid → Where → Whe
 where_after homes c (Pushed d u) t w = if same_tid u t then IsPending d else w
 where_after homes c (Took d) t w = where_taken d w
 where_after homes c (Moved lock caller slept woke) t w =
-    if is_thread t woke then where_woken c (home_of homes t) else (if same_tid caller t then where_slept lock slept w else w)
+    if is_thread t woke then where_woken c (home_of homes t)
+    else (if same_tid caller t then where_slept lock slept w else w)
 where_after homes c Still t w = w
 
 -- where a thread is after these steps; at boot each is on its home CPU
@@ -128,7 +131,8 @@ pending_by (s ∷ past) c = pending_after s.move c (pending_by past c)
 
 -- a CPU may edit for a caller: the CPU is the caller's home, the caller is there, and the CPU's
 -- hand is empty
-pub record MayEditFor (homes : List CpuId) (past : List Step) (c : CpuId) (caller : Tid) : Type 0 where
+pub record MayEditFor (homes : List CpuId) (past : List Step) (c : CpuId) (caller : Tid) : Type
+    0 where
   pub at_home : where_is homes past caller ≡ Home
   pub home : home_of homes caller ≡ Some c
   pub empty : (t : Tid) → where_is homes past t ≢ Hand c
@@ -145,7 +149,8 @@ abbrev pub MayMove : List CpuId → List Step → CpuId → Move → Type 0
 MayMove homes past c (Pushed d t) = MayPush homes past c d t
 MayMove homes past c (Took d) = d ≡ c
 MayMove homes past c (Moved lock caller slept woke) =
-    MayEditFor homes past c caller × MatchOption woke (Unit {0}) (λ u. is_asleep (where_is homes past u) ≡ true)
+    MayEditFor homes past c caller
+    × MatchOption woke (Unit {0}) (λ u. is_asleep (where_is homes past u) ≡ true)
 MayMove homes past c Still = Unit {0}
 
 -- each of these steps may follow those before it
@@ -180,7 +185,8 @@ is_here homes c moves t = is_cpu c (home_of homes t) && is_home (where_is homes 
 
 -- a CPU's private state agrees with the places. It has each thread that is on this home CPU once,
 -- and no other, and in its hand exactly the thread whose place is there
-pub record Stands (homes : List CpuId) (c : CpuId) (moves : List Step) (own : Threads) : Type 0 where
+pub record Stands (homes : List CpuId) (c : CpuId) (moves : List Step) (own : Threads) : Type
+    0 where
   pub places : (t : Tid) → copies own t ≡ one_if (is_here homes c moves t)
   pub hand : (t : Tid) → is_thread t own.hand ≡ is_hand c (where_is homes moves t)
 
@@ -188,7 +194,8 @@ pub record Stands (homes : List CpuId) (c : CpuId) (moves : List Step) (own : Th
 -- thread n
 abbrev pub homed : CpuId → ℕ → List CpuId → List Tid
 homed c n [] = []
-homed c n (home ∷ homes) = if same_cpu c home then record { 0 = n } ∷ homed c (n + 1) homes else homed c (n + 1) homes
+homed c n (home ∷ homes) =
+    if same_cpu c home then record { 0 = n } ∷ homed c (n + 1) homes else homed c (n + 1) homes
 
 -- a CPU's private state at boot: all its threads are ready
 abbrev pub at_boot : List CpuId → CpuId → Threads

@@ -1,13 +1,17 @@
 -- What a machine and its parts report: of a block, what is true of it; of a thread, its place.
 use Rattle.std.specs.Prelude.{◌≡◌, ◌⊎◌, ◌<◌, true, Option, Some, None}
-use Rattle.{event_log.specs.declared.ids.{CpuId.CpuId, Tid.Tid, TheConstants.CPUS}, layer_traits.specs.declared.calls.Place.Place}
-use Rattle.layer_traits.specs.{declared.moves.WaitList.TheVariants.{Sleepers, Receivers, Senders}, Views.Owned.IsHeld, Threads.Places.{Where, Home, Hand}}
-use Rattle.{layer_traits.specs.Threads.Places.{IsPending, Asleep, At, Threads}, thread_blocks.specs.Queues.is_in}
+use Rattle.event_log.specs.declared.ids.{CpuId.CpuId, Tid.Tid, TheConstants.CPUS}
+use Rattle.layer_traits.specs.declared.{calls.Place.Place, moves.WaitList.TheVariants.Sleepers}
+use Rattle.layer_traits.specs.declared.moves.WaitList.TheVariants.{Receivers, Senders}
+use Rattle.layer_traits.specs.{Views.Owned.IsHeld, Threads.Places.{Where, Home, Hand, IsPending}}
+use Rattle.layer_traits.specs.Threads.Places.{Asleep, At, Threads}
+use Rattle.thread_blocks.specs.Queues.{is_in}
 use Rattle.event_log.specs.declared.ids.LockId.TheVariants as lock
 use Rattle.layer_traits.specs.declared.calls.Place.TheVariants as place
 
 -- what the machine or a part reports is true, and some CPU holds what the machine does not report
-pub record IsObservedAs {P A : Type 0} (Fits : P → Type 0) (cpu_of : P → CpuId) (IsInside : CpuId → Type 0) (here : P → Option A)
+pub record IsObservedAs {P A : Type 0} (Fits : P → Type 0) (cpu_of : P → CpuId)
+    (IsInside : CpuId → Type 0) (here : P → Option A)
     (home : Option A) (truth : A) : Type 0 where
   pub by_machine : (x : A) → home ≡ Some x → x ≡ truth
   pub by_part : (p : P) (x : A) → Fits p → here p ≡ Some x → x ≡ truth
@@ -16,10 +20,12 @@ pub record IsObservedAs {P A : Type 0} (Fits : P → Type 0) (cpu_of : P → Cpu
 -- a CPU may report the place of a thread: it is the thread's home, it has the thread in its hand,
 -- or it may hold a lock
 abbrev pub MayObserve : (CpuId → Type 0) → Option CpuId → Where → CpuId → Type 0
-MayObserve IsInside home where_it_is c = (home ≡ Some c) ⊎ ((where_it_is ≡ Hand c) ⊎ ((c.0 < CPUS) × IsInside c))
+MayObserve IsInside home where_it_is c =
+    (home ≡ Some c) ⊎ ((where_it_is ≡ Hand c) ⊎ ((c.0 < CPUS) × IsInside c))
 
 -- the parts of one CPU report the place of a thread
-pub record ReadsPlace {P : Type 0} (Fits : P → Type 0) (cpu_of : P → CpuId) (IsInside : CpuId → Type 0) (IsSilent : P → Type 0)
+pub record ReadsPlace {P : Type 0} (Fits : P → Type 0) (cpu_of : P → CpuId)
+    (IsInside : CpuId → Type 0) (IsSilent : P → Type 0)
     (home : Option CpuId) (where_it_is : Where) : Type 0 where
   pub cpu : CpuId
   pub may : MayObserve IsInside home where_it_is cpu

@@ -1,19 +1,23 @@
 -- What a machine and its parts report of a block: it is in the machine, or a CPU that may hold its
 -- lock holds it.
 use Rattle.std.specs.Prelude.{◌≡◌, ◌≢◌, ◌<◌, List, Option, Some, None, if◌then◌else◌}
-use Rattle.{event_log.specs.declared.ids.{CpuId.CpuId, Tid.Tid, TheConstants.CPUS}, layer_traits.specs.declared.moves.WaitList.{WaitList, TheVariants.Sleepers}}
-use Rattle.layer_traits.specs.{declared.moves.WaitList.TheVariants.{Receivers, Senders}, Layers.{QLocking.LockState, Sleeping.SleepState}}
+use Rattle.event_log.specs.declared.ids.{CpuId.CpuId, Tid.Tid, TheConstants.CPUS}
+use Rattle.layer_traits.specs.declared.moves.WaitList.{WaitList, TheVariants.{Sleepers, Receivers}}
+use Rattle.layer_traits.specs.declared.moves.WaitList.TheVariants.{Senders}
+use Rattle.layer_traits.specs.Layers.{QLocking.LockState, Sleeping.SleepState}
 use Rattle.thread_blocks.specs.Queues.{is_in}
 
 -- a CPU of the machine that may hold a lock holds it: each part of that CPU has something to report
-pub record IsHeld {P A : Type 0} (Fits : P → Type 0) (cpu_of : P → CpuId) (IsInside : CpuId → Type 0) (here : P → Option A) : Type 0 where
+pub record IsHeld {P A : Type 0} (Fits : P → Type 0) (cpu_of : P → CpuId)
+    (IsInside : CpuId → Type 0) (here : P → Option A) : Type 0 where
   pub cpu : CpuId
   pub known : cpu.0 < CPUS
   pub inside : IsInside cpu
   pub has : (p : P) → cpu_of p ≡ cpu → Fits p → here p ≢ None
 
 -- what the machine or a part reports is true, and some CPU holds what the machine does not report
-pub record IsObserved {P A : Type 0} (Fits : P → Type 0) (cpu_of : P → CpuId) (IsInside : CpuId → Type 0) (here : P → Option A)
+pub record IsObserved {P A : Type 0} (Fits : P → Type 0) (cpu_of : P → CpuId)
+    (IsInside : CpuId → Type 0) (here : P → Option A)
     (home truth : Option A) : Type 0 where
   pub by_machine : (x : A) → home ≡ Some x → truth ≡ Some x
   pub by_part : (p : P) (x : A) → Fits p → here p ≡ Some x → truth ≡ Some x
@@ -23,16 +27,19 @@ pub record IsObserved {P A : Type 0} (Fits : P → Type 0) (cpu_of : P → CpuId
 abbrev pub wait_list_among : Tid → (WaitList → List Tid) → Option WaitList
 wait_list_among t lines =
     if is_in t (lines Sleepers) then Some Sleepers
-    else (if is_in t (lines Receivers) then Some Receivers else (if is_in t (lines Senders) then Some Senders else None))
+    else (if is_in t (lines Receivers) then Some Receivers
+    else (if is_in t (lines Senders) then Some Senders else None))
 
 -- the waiting list of a lock that has a thread
 abbrev pub wait_list_with : {B : Type 0} → Tid → SleepState B → Option WaitList
 wait_list_with t state =
     if is_in t state.sleepers then Some Sleepers
-    else (if is_in t state.receivers then Some Receivers else (if is_in t state.senders then Some Senders else None))
+    else (if is_in t state.receivers then Some Receivers
+    else (if is_in t state.senders then Some Senders else None))
 
 -- the same of a lock that has an owner
 abbrev pub wait_list_under : {B : Type 0} → Tid → LockState B → Option WaitList
 wait_list_under t state =
     if is_in t state.sleepers then Some Sleepers
-    else (if is_in t state.receivers then Some Receivers else (if is_in t state.senders then Some Senders else None))
+    else (if is_in t state.receivers then Some Receivers
+    else (if is_in t state.senders then Some Senders else None))

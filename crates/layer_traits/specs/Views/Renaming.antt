@@ -1,8 +1,11 @@
 -- A layer that wraps its edits in those of the lower layer: the same blocks, events and calls under
 -- the layer's own names.
-use Rattle.{std.specs.Prelude.{List, Option, map, option_map}, event_log.specs.declared.ids.LockId.LockId}
-use Rattle.layer_traits.specs.declared.{queue_edits.{QueueBlock.QueueBlock, QueueEdit.QueueEdit}, queues.{QueueCall.QueueCall, QueueEvent.QueueEvent}}
-use Rattle.layer_traits.specs.{declared.scheds.SchedCall.SchedCall, Polling.Plans.{Plan, Now, Act}, Layers.Queues.event}
+use Rattle.std.specs.Prelude.{List, Option, map, option_map}
+use Rattle.event_log.specs.declared.ids.LockId.{LockId}
+use Rattle.layer_traits.specs.declared.queue_edits.{QueueBlock.QueueBlock, QueueEdit.QueueEdit}
+use Rattle.layer_traits.specs.declared.queues.{QueueCall.QueueCall, QueueEvent.QueueEvent}
+use Rattle.layer_traits.specs.{declared.scheds.SchedCall.SchedCall, Polling.Plans.{Plan, Now, Act}}
+use Rattle.layer_traits.specs.Layers.Queues.{event}
 use Rattle.layer_traits.specs.declared.queue_edits.QueueBlock.TheVariants as block
 use Rattle.layer_traits.specs.declared.queue_edits.QueueEdit.TheVariants as edit
 use Rattle.layer_traits.specs.declared.queues.QueueCall.TheVariants as queue
@@ -14,7 +17,8 @@ viewed_block view (block.Queue queue homes) = block.Queue queue homes
 viewed_block view (block.Above above) = block.Above (view above)
 
 -- the opening blocks, with this view of those of buffers
-abbrev pub viewed : {A B : Type 0} → (A → B) → (LockId → Option (QueueBlock A)) → LockId → Option (QueueBlock B)
+abbrev pub viewed : {A B : Type 0} → (A → B) → (LockId → Option (QueueBlock A)) → LockId
+    → Option (QueueBlock B)
 viewed view opening lock = option_map (viewed_block view) (opening lock)
 
 -- an edit under another name

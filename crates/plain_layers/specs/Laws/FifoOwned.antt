@@ -1,29 +1,44 @@
 -- Buffers with one section a call report their items and wait lists from the locks that sleep and
 -- wakeup below report.
-use Rattle.std.specs.{Prelude.{◌≡◌, ◌<◌, List, [], ◌∷◌, ◌++◌, length, Option, Some, None, IsSome, option_map, option_to_list, refl}, List.AllByRecursion}
+use Rattle.std.specs.Prelude.{◌≡◌, ◌<◌, List, [], ◌∷◌, ◌++◌, length, Option, Some, None, IsSome}
+use Rattle.std.specs.{Prelude.{option_map, option_to_list, refl}, List.AllByRecursion}
 use Rattle.std.proofs.{Common.{ap, sym, ◌∙◌, subst}, lemmas.Option.{same_Some, slice_get-get_or}}
-use Rattle.layer_traits.specs.{Blocks.{Capacities.caps_in, BufferEffects.contents_of, QueueBlocks.{above_of, inner}}, Views.Renaming.viewed}
-use Rattle.layer_traits.specs.{Views.Observed.IsObservedAs, declared.{calls.Effect.Effect, moves.WaitList.WaitList, queue_edits.QueueBlock.QueueBlock}}
-use Rattle.layer_traits.specs.{declared.queues.{QueueCall.{QueueCall, TheVariants.{Push, TakeAll, OnBuffer}}, QueueEvent.QueueEvent}, Layers.BufferLaw.entry_of}
-use Rattle.layer_traits.{specs.Layers.{Queues.{IsKnownEvent, buffer_sections, with_section}, Sleeping.{wait_list_at, sleep_edited}}, proofs.Alone.block_there}
-use Rattle.plain_layers.specs.Fifos.{plain_shown, PlainLocked, effect_by, plain_entries_in, fresh_buffer, fresh_buffers, wait_lists_in, locked_after}
-use Rattle.plain_layers.specs.{declared.attempts.Attempt.Attempt, Attempts.attempts, FifoOwned.{plain_closed_of, plain_items_in, nobody, nothing_read}}
-use Rattle.{plain_layers.specs.{FifoOwned.plain_wait_lists_of, Laws.FifoTallies.plain_tally}, event_log.specs.declared.{entries.Entry.Entry, ids.BufId.BufId}}
-use Rattle.event_log.specs.{declared.ids.{CpuId.CpuId, LockId.{LockId, TheVariants.Buffer}, Tid.Tid, TheConstants.CPUS}, Buffers.items_of, History.IsLawful}
+use Rattle.layer_traits.specs.Blocks.{Capacities.caps_in, BufferEffects.contents_of}
+use Rattle.layer_traits.specs.{Blocks.QueueBlocks.{above_of, inner}, Views.Renaming.viewed}
+use Rattle.layer_traits.specs.{Views.Observed.IsObservedAs, declared.calls.Effect.Effect}
+use Rattle.layer_traits.specs.declared.{moves.WaitList.WaitList, queue_edits.QueueBlock.QueueBlock}
+use Rattle.layer_traits.specs.declared.queues.QueueCall.{QueueCall, TheVariants.{Push, TakeAll}}
+use Rattle.layer_traits.specs.declared.queues.QueueCall.TheVariants.{OnBuffer}
+use Rattle.layer_traits.specs.{declared.queues.QueueEvent.QueueEvent, Layers.BufferLaw.entry_of}
+use Rattle.layer_traits.specs.Layers.Queues.{IsKnownEvent, buffer_sections, with_section}
+use Rattle.layer_traits.specs.Layers.Sleeping.{wait_list_at, sleep_edited}
+use Rattle.{layer_traits.proofs.Alone.block_there, plain_layers.specs.Fifos.plain_shown}
+use Rattle.plain_layers.specs.Fifos.{PlainLocked, effect_by, plain_entries_in, fresh_buffer}
+use Rattle.plain_layers.specs.Fifos.{fresh_buffers, wait_lists_in, locked_after}
+use Rattle.plain_layers.specs.{declared.attempts.Attempt.Attempt, Attempts.attempts}
+use Rattle.plain_layers.specs.FifoOwned.{plain_closed_of, plain_items_in, nobody, nothing_read}
+use Rattle.plain_layers.specs.{FifoOwned.plain_wait_lists_of, Laws.FifoTallies.plain_tally}
+use Rattle.event_log.specs.declared.{entries.Entry.Entry, ids.{BufId.BufId, CpuId.CpuId}}
+use Rattle.event_log.specs.declared.ids.{LockId.{LockId, TheVariants.Buffer}, Tid.Tid}
+use Rattle.event_log.specs.{declared.ids.TheConstants.CPUS, Buffers.items_of, History.IsLawful}
 use Rattle.event_log.specs.{Runs.is_closed, Sections.Section}
 
 -- a block whose view is there is there
-pub there_viewed : {A B : Type 0} (view : A → B) (o : Option A) → IsSome (option_map view o) → IsSome o
+pub there_viewed : {A B : Type 0} (view : A → B) (o : Option A) → IsSome (option_map view o)
+    → IsSome o
 there_viewed view None some = absurd cc
 there_viewed view (Some x) some = refl
 
-module _ (opening : LockId → Option (QueueBlock PlainLocked)) (fresh : inner opening ≡ fresh_buffers (caps_in (viewed plain_shown opening))) (b : BufId)
+module _ (opening : LockId → Option (QueueBlock PlainLocked))
+    (fresh : inner opening ≡ fresh_buffers (caps_in (viewed plain_shown opening))) (b : BufId)
     (within : b.0 < length (caps_in (viewed plain_shown opening))) where
   -- a buffer of the capacities has a lock, at the start
   inner_there : IsSome (inner opening (Buffer b))
   inner_there =
       subst (λ (o : Option PlainLocked). IsSome o)
-      (sym (ap (λ locks. locks (Buffer b)) fresh ∙ ap (option_map fresh_buffer) (slice_get-get_or (caps_in (viewed plain_shown opening)) b.0 0 within))) refl
+      (sym (ap (λ locks. locks (Buffer b)) fresh
+      ∙ ap (option_map fresh_buffer)
+      (slice_get-get_or (caps_in (viewed plain_shown opening)) b.0 0 within))) refl
 
   pub buffer_there : IsSome (opening (Buffer b))
   buffer_there = go (opening (Buffer b)) inner_there
@@ -33,8 +48,11 @@ module _ (opening : LockId → Option (QueueBlock PlainLocked)) (fresh : inner o
       go (Some block) some = refl
 
   -- and after any sections
-  found : (past : List (Section Attempt)) → (state : PlainLocked) × (locked_after (inner opening) (Buffer b) past ≡ Some state)
-  found past = go (locked_after (inner opening) (Buffer b) past) refl (block_there (sleep_edited attempts) (inner opening) (Buffer b) past inner_there)
+  found : (past : List (Section Attempt))
+      → (state : PlainLocked) × (locked_after (inner opening) (Buffer b) past ≡ Some state)
+  found past =
+      go (locked_after (inner opening) (Buffer b) past) refl
+      (block_there (sleep_edited attempts) (inner opening) (Buffer b) past inner_there)
     where
       go : (o : Option PlainLocked) → locked_after (inner opening) (Buffer b) past ≡ o → IsSome o
           → (state : PlainLocked) × (locked_after (inner opening) (Buffer b) past ≡ Some state)
@@ -42,26 +60,33 @@ module _ (opening : LockId → Option (QueueBlock PlainLocked)) (fresh : inner o
       go (Some state) is some = (state, is)
 
   -- its items are those that the effects leave
-  pub items_read : (past : List (Section Attempt)) → option_map plain_items_in (locked_after (inner opening) (Buffer b) past)
-      ≡ Some (items_of (contents_of (caps_in (viewed plain_shown opening)) (plain_entries_in (inner opening) past)) b.0)
+  pub items_read : (past : List (Section Attempt))
+      → option_map plain_items_in (locked_after (inner opening) (Buffer b) past)
+      ≡ Some (items_of (contents_of (caps_in (viewed plain_shown opening))
+      (plain_entries_in (inner opening) past)) b.0)
   items_read past =
       let state = found past in
       ap (option_map plain_items_in) state.1
-      ∙ ap Some (sym (plain_tally (inner opening) (caps_in (viewed plain_shown opening)) past fresh b state.0 state.1).items)
+      ∙ ap Some (sym (plain_tally (inner opening) (caps_in (viewed plain_shown opening)) past fresh
+      b state.0 state.1).items)
 
   -- it is closed if an effect has closed it
-  pub closed_read : (past : List (Section Attempt)) → option_map plain_closed_of (locked_after (inner opening) (Buffer b) past)
+  pub closed_read : (past : List (Section Attempt))
+      → option_map plain_closed_of (locked_after (inner opening) (Buffer b) past)
       ≡ Some (is_closed (plain_entries_in (inner opening) past) b.0)
   closed_read past =
       let state = found past in
       ap (option_map plain_closed_of) state.1
-      ∙ ap Some (sym (plain_tally (inner opening) (caps_in (viewed plain_shown opening)) past fresh b state.0 state.1).closed)
+      ∙ ap Some (sym (plain_tally (inner opening) (caps_in (viewed plain_shown opening)) past fresh
+      b state.0 state.1).closed)
 
-  pub wait_lists_read : (past : List (Section Attempt)) → option_map plain_wait_lists_of (locked_after (inner opening) (Buffer b) past)
+  pub wait_lists_read : (past : List (Section Attempt))
+      → option_map plain_wait_lists_of (locked_after (inner opening) (Buffer b) past)
       ≡ Some (λ (line : WaitList). wait_lists_in (inner opening) past b line)
   wait_lists_read past =
       let state = found past in
-      ap (option_map plain_wait_lists_of) state.1 ∙ ap (λ o. Some (λ (line : WaitList). wait_list_at line o)) (sym state.1)
+      ap (option_map plain_wait_lists_of) state.1
+      ∙ ap (λ o. Some (λ (line : WaitList). wait_list_at line o)) (sym state.1)
 
 -- no thread owns a lock of buffers with one section a call, and the machine reports so
 pub nobody_owns : {P : Type 0} (Fits : P → Type 0) (cpu_of : P → CpuId) (IsInside : CpuId → Type 0)
@@ -73,19 +98,26 @@ nobody_owns Fits cpu_of IsInside = record {
 }
 
 -- each effect has its section's CPU, which is one that a machine may have
-pub entries_known : (locks : LockId → Option PlainLocked) (past : List (QueueEvent Attempt)) → IsLawful IsKnownEvent past
+pub entries_known : (locks : LockId → Option PlainLocked) (past : List (QueueEvent Attempt))
+    → IsLawful IsKnownEvent past
     → AllByRecursion (λ (e : Entry). e.cpu.0 < CPUS) (plain_entries_in locks (buffer_sections past))
 entries_known locks [] known = tt
 entries_known locks (event ∷ past) known = go event.call (entries_known locks past known.1)
   where
-    more : (t : Tid) (b : BufId) (o : Option Effect) (es : List Entry) → AllByRecursion (λ (e : Entry). e.cpu.0 < CPUS) es
-        → AllByRecursion (λ (e : Entry). e.cpu.0 < CPUS) (option_to_list (option_map (entry_of event.cpu t b) o) ++ es)
+    more : (t : Tid) (b : BufId) (o : Option Effect) (es : List Entry)
+        → AllByRecursion (λ (e : Entry). e.cpu.0 < CPUS) es
+        → AllByRecursion (λ (e : Entry). e.cpu.0 < CPUS)
+        (option_to_list (option_map (entry_of event.cpu t b) o) ++ es)
     more t b None es rest = rest
     more t b (Some f) es rest = (known.0, rest)
 
-    go : (call : QueueCall Attempt) → AllByRecursion (λ (e : Entry). e.cpu.0 < CPUS) (plain_entries_in locks (buffer_sections past))
-        → AllByRecursion (λ (e : Entry). e.cpu.0 < CPUS) (plain_entries_in locks (with_section event.cpu call (buffer_sections past)))
+    go : (call : QueueCall Attempt)
+        → AllByRecursion (λ (e : Entry). e.cpu.0 < CPUS)
+        (plain_entries_in locks (buffer_sections past))
+        → AllByRecursion (λ (e : Entry). e.cpu.0 < CPUS)
+        (plain_entries_in locks (with_section event.cpu call (buffer_sections past)))
     go (Push d t) rest = rest
     go (TakeAll d) rest = rest
     go (OnBuffer d a) rest =
-        more a.thread d (effect_by a (locked_after locks (Buffer d) (buffer_sections past))) (plain_entries_in locks (buffer_sections past)) rest
+        more a.thread d (effect_by a (locked_after locks (Buffer d) (buffer_sections past)))
+        (plain_entries_in locks (buffer_sections past)) rest

@@ -1,65 +1,94 @@
 -- What calls of other CPUs preserve: whether a thread owns a lock, sleeps for it, or neither.
-use Rattle.std.proofs.Common.{◌≡◌, ◌≢◌, ◌⊎◌, inl, inr, Bool, ◌&&◌, ◌||◌, not, nat_lt, true, false, List, [], ◌∷◌, ◌++◌, Option, Some, None, option_map}
-use Rattle.std.proofs.Common.{arith, if◌then◌else◌, refl, ap, sym, ◌∙◌, subst}
-use Rattle.event_log.specs.{declared.ids.{BufId.BufId, CpuId.CpuId, LockId.{LockId, TheVariants.Buffer}, Tid.Tid, TheConstants.THREADS}, History.AreOthers}
-use Rattle.event_log.{specs.History.{IsLawful, same_cpu, same_lock}, proofs.Same.{same_cpu_self, same_lock_true}}
-use Rattle.layer_traits.specs.declared.{locked.QEdit.{QEdit, TheVariants.{Acquire, Inside, Release}}, queue_edits.QueueBlock.QueueBlock}
-use Rattle.layer_traits.specs.{declared.queues.{QueueCall.{QueueCall, TheVariants.{Push, TakeAll, OnBuffer}}, QueueEvent.QueueEvent}, Layers.QLocking.IsOwners}
-use Rattle.layer_traits.specs.Layers.{QLocking.{LockRules, LockState, lock_after, lock_asked_by, lock_caller, lock_edited, owner_in}, QLockLaw.HasOrAwaits}
-use Rattle.layer_traits.specs.Layers.{QLockLaw.lock_kernel, Queues.{CallAllowed, QueueAllowed, buffer_sections, cpu_of_queue_event, with_section}}
-use Rattle.{layer_traits.specs.{Layers.Sleeping.joined, Threads.Places.home_of, Blocks.QueueBlocks.{homes_in, inner}}, thread_blocks.specs.Queues.first}
-use Rattle.thread_blocks.{specs.Queues.{is_in, rest, same_tid}, proofs.{Distinct.{out_of_rest, pushed_in}, Members.same_tid_true}}
+use Rattle.std.proofs.Common.{◌≡◌, ◌≢◌, ◌⊎◌, inl, inr, Bool, ◌&&◌, ◌||◌, not, nat_lt, true, false}
+use Rattle.std.proofs.Common.{List, [], ◌∷◌, ◌++◌, Option, Some, None, option_map, arith}
+use Rattle.std.proofs.Common.{if◌then◌else◌, refl, ap, sym, ◌∙◌, subst}
+use Rattle.event_log.specs.declared.ids.{BufId.BufId, CpuId.CpuId, LockId.LockId}
+use Rattle.event_log.specs.declared.ids.{LockId.TheVariants.Buffer, Tid.Tid, TheConstants.THREADS}
+use Rattle.event_log.specs.History.{AreOthers, IsLawful, same_cpu, same_lock}
+use Rattle.event_log.proofs.Same.{same_cpu_self, same_lock_true}
+use Rattle.layer_traits.specs.declared.locked.QEdit.{QEdit, TheVariants.{Acquire, Inside, Release}}
+use Rattle.layer_traits.specs.declared.queue_edits.QueueBlock.{QueueBlock}
+use Rattle.layer_traits.specs.declared.queues.QueueCall.{QueueCall, TheVariants.{Push, TakeAll}}
+use Rattle.layer_traits.specs.declared.queues.QueueCall.TheVariants.{OnBuffer}
+use Rattle.layer_traits.specs.{declared.queues.QueueEvent.QueueEvent, Layers.QLocking.IsOwners}
+use Rattle.layer_traits.specs.Layers.QLocking.{LockRules, LockState, lock_after, lock_asked_by}
+use Rattle.layer_traits.specs.Layers.QLocking.{lock_caller, lock_edited, owner_in}
+use Rattle.layer_traits.specs.Layers.{QLockLaw.{HasOrAwaits, lock_kernel}, Queues.CallAllowed}
+use Rattle.layer_traits.specs.Layers.Queues.{QueueAllowed, buffer_sections, cpu_of_queue_event}
+use Rattle.layer_traits.specs.Layers.{Queues.with_section, Sleeping.joined}
+use Rattle.layer_traits.specs.{Threads.Places.home_of, Blocks.QueueBlocks.{homes_in, inner}}
+use Rattle.thread_blocks.{specs.Queues.{first, is_in, rest, same_tid}, proofs.Distinct.out_of_rest}
+use Rattle.thread_blocks.proofs.{Distinct.pushed_in, Members.same_tid_true}
 use Rattle.queuing_lock.specs.Steady.{HasNothing, IsOwner, IsPreserved, IsKeptByOwners}
 
-module _ {F R B O : Type 0} (rules : LockRules F R B O) (opening : LockId → Option (QueueBlock (LockState B))) (kept : IsPreserved rules opening) where
+module _ {F R B O : Type 0} (rules : LockRules F R B O)
+    (opening : LockId → Option (QueueBlock (LockState B))) (kept : IsPreserved rules opening) where
   open kept use {t, P, keeps, c, at_home, lock}
 
-  preserved_section : (b : BufId) (e : QEdit F R) (before at : Option (LockState B)) → (lock ≡ Buffer b → before ≡ at) → IsOwners rules e (owner_in at)
+  preserved_section : (b : BufId) (e : QEdit F R) (before at : Option (LockState B))
+      → (lock ≡ Buffer b → before ≡ at) → IsOwners rules e (owner_in at)
       → (lock_caller rules e ≡ t → ⊥)
-      → (same : Bool) → same_lock lock (Buffer b) ≡ same → P before → P (if same then option_map (lock_edited rules e) before else before)
+      → (same : Bool) → same_lock lock (Buffer b) ≡ same → P before
+      → P (if same then option_map (lock_edited rules e) before else before)
   preserved_section b e before at same_block owners apart false other holds = holds
   preserved_section b e None at same_block owners apart true here holds = holds
   preserved_section b e (Some state) at same_block owners apart true here holds =
-      keeps e state (subst (λ o. IsOwners rules e (owner_in o)) (sym (same_block (same_lock_true lock (Buffer b) here))) owners) apart holds
+      keeps e state (subst (λ o. IsOwners rules e (owner_in o))
+      (sym (same_block (same_lock_true lock (Buffer b) here))) owners) apart holds
 
   -- by a call of another thread
   pub preserved_by : (past : List (QueueEvent (QEdit F R))) (d : CpuId) (b : BufId) (e : QEdit F R)
-      → IsOwners rules e (owner_in (lock_after rules (inner opening) (Buffer b) (buffer_sections past)))
-      → (lock_caller rules e ≡ t → ⊥) → P (lock_after rules (inner opening) lock (buffer_sections past))
-      → P (lock_after rules (inner opening) lock (with_section d (OnBuffer b e) (buffer_sections past)))
+      → IsOwners rules e (owner_in
+      (lock_after rules (inner opening) (Buffer b) (buffer_sections past)))
+      → (lock_caller rules e ≡ t → ⊥)
+      → P (lock_after rules (inner opening) lock (buffer_sections past))
+      → P (lock_after rules (inner opening) lock
+      (with_section d (OnBuffer b e) (buffer_sections past)))
   preserved_by past d b e owners apart holds =
-      preserved_section b e (lock_after rules (inner opening) lock (buffer_sections past)) (lock_after rules (inner opening) (Buffer b) (buffer_sections past))
-      (λ is. ap (λ l. lock_after rules (inner opening) l (buffer_sections past)) is) owners apart (same_lock lock (Buffer b)) refl holds
+      preserved_section b e (lock_after rules (inner opening) lock (buffer_sections past))
+      (lock_after rules (inner opening) (Buffer b) (buffer_sections past))
+      (λ is. ap (λ l. lock_after rules (inner opening) l (buffer_sections past)) is) owners apart
+      (same_lock lock (Buffer b)) refl holds
 
-  other_caller : (d : CpuId) (u : Tid) → same_cpu d c ≡ false → home_of (homes_in opening) u ≡ Some d → u ≡ t → ⊥
+  other_caller : (d : CpuId) (u : Tid) → same_cpu d c ≡ false
+      → home_of (homes_in opening) u ≡ Some d → u ≡ t → ⊥
   other_caller d u differs home is = grind (arith, at_home, same_cpu_self)
 
-  preserved_call : (past : List (QueueEvent (QEdit F R))) (d : CpuId) (q : QueueCall (QEdit F R)) → CallAllowed (lock_kernel rules opening) past d q
+  preserved_call : (past : List (QueueEvent (QEdit F R))) (d : CpuId) (q : QueueCall (QEdit F R))
+      → CallAllowed (lock_kernel rules opening) past d q
       → same_cpu d c ≡ false
-      → P (lock_after rules (inner opening) lock (buffer_sections past)) → P (lock_after rules (inner opening) lock (with_section d q (buffer_sections past)))
+      → P (lock_after rules (inner opening) lock (buffer_sections past))
+      → P (lock_after rules (inner opening) lock (with_section d q (buffer_sections past)))
   preserved_call past d (Push to u) allowed differs holds = holds
   preserved_call past d (TakeAll from) allowed differs holds = holds
   preserved_call past d (OnBuffer b e) allowed differs holds =
-      preserved_by past d b e allowed.upper.owners (other_caller d (lock_caller rules e) differs allowed.caller.home) holds
+      preserved_by past d b e allowed.upper.owners
+      (other_caller d (lock_caller rules e) differs allowed.caller.home) holds
 
   -- and by calls of other CPUs than the thread's home
-  pub preserved_by_others : (more past : List (QueueEvent (QEdit F R))) → AreOthers cpu_of_queue_event c more
+  pub preserved_by_others : (more past : List (QueueEvent (QEdit F R)))
+      → AreOthers cpu_of_queue_event c more
       → IsLawful (QueueAllowed (lock_kernel rules opening)) (more ++ past)
-      → P (lock_after rules (inner opening) lock (buffer_sections past)) → P (lock_after rules (inner opening) lock (buffer_sections (more ++ past)))
+      → P (lock_after rules (inner opening) lock (buffer_sections past))
+      → P (lock_after rules (inner opening) lock (buffer_sections (more ++ past)))
   preserved_by_others [] past others lawful holds = holds
   preserved_by_others (e ∷ more) past others lawful holds =
-      preserved_call (more ++ past) e.cpu e.call lawful.0 others.0 (preserved_by_others more past others.1 lawful.1 holds)
+      preserved_call (more ++ past) e.cpu e.call lawful.0 others.0
+      (preserved_by_others more past others.1 lawful.1 holds)
 
 -- Lists of sleepers.
 
-joined_keeps : (t u : Tid) (queue : List Tid) → is_in t queue ≡ true → is_in t (joined u queue) ≡ true
+joined_keeps : (t u : Tid) (queue : List Tid) → is_in t queue ≡ true
+    → is_in t (joined u queue) ≡ true
 joined_keeps t u queue stands = grind (arith, pushed_in)
 
-joined_only : (t u : Tid) (queue : List Tid) → (u ≡ t → ⊥) → is_in t queue ≡ false → is_in t (joined u queue) ≡ false
+joined_only : (t u : Tid) (queue : List Tid) → (u ≡ t → ⊥) → is_in t queue ≡ false
+    → is_in t (joined u queue) ≡ false
 joined_only t u queue apart missing = grind (arith, pushed_in, same_tid_true)
 
 -- a thread in a queue is its first or after the first
-front_or_behind : (t : Tid) (queue : List Tid) → is_in t queue ≡ true → (first queue ≡ Some t) ⊎ (is_in t (rest queue) ≡ true)
+front_or_behind : (t : Tid) (queue : List Tid) → is_in t queue ≡ true
+    → (first queue ≡ Some t) ⊎ (is_in t (rest queue) ≡ true)
 front_or_behind t queue stands = grind (arith, same_tid_true)
 
 -- The three preserved properties.

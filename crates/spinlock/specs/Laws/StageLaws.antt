@@ -1,17 +1,23 @@
 -- A stage determines whether a section is under way.
 use Rattle.std.proofs.Common.{◌≡◌, List, Option, is_some, ap, sym}
-use Rattle.event_log.specs.{declared.ids.{CpuId.CpuId, LockId.LockId}, Actions.{Action, AreLegal, phase}, History.IsLawful, Sections.sections_in}
-use Rattle.{event_log.proofs.Foreign.{cpus_of_actions_known, sections_in_known}, layer_traits.specs.{Polling.Plans.is_in_section, Protocols.Protocol.Rules}}
-use Rattle.{layer_traits.specs.Protocols.Protocol.IsKnown, spinlock.specs.{Stages.{StageFits, stage_section}, declared.stages.TicketPhase.TicketPhase}}
-use Rattle.spinlock.specs.declared.stages.TicketPhase.TheVariants.{Out, Waiting, Holding}
+use Rattle.event_log.specs.{declared.ids.{CpuId.CpuId, LockId.LockId}, Actions.{Action, AreLegal}}
+use Rattle.event_log.specs.{Actions.phase, History.IsLawful, Sections.sections_in}
+use Rattle.event_log.proofs.Foreign.{cpus_of_actions_known, sections_in_known}
+use Rattle.layer_traits.specs.{Polling.Plans.is_in_section, Protocols.Protocol.{Rules, IsKnown}}
+use Rattle.spinlock.specs.Stages.{StageFits, stage_section}
+use Rattle.spinlock.specs.declared.stages.TicketPhase.{TicketPhase, TheVariants.{Out, Waiting}}
+use Rattle.spinlock.specs.declared.stages.TicketPhase.TheVariants.{Holding}
 
 -- a section is under way exactly while the CPU waits at a lock or holds one
-pub stage_busy : {E B O : Type 0} (rules : Rules E B O) (opening : LockId → Option B) (acts : List (Action E)) (cpu : CpuId) (stage : TicketPhase E B)
-    → StageFits rules opening acts cpu stage → is_some (stage_section cpu stage) ≡ is_in_section (phase cpu acts)
+pub stage_busy : {E B O : Type 0} (rules : Rules E B O) (opening : LockId → Option B)
+    (acts : List (Action E)) (cpu : CpuId) (stage : TicketPhase E B)
+    → StageFits rules opening acts cpu stage
+    → is_some (stage_section cpu stage) ≡ is_in_section (phase cpu acts)
 stage_busy rules opening acts cpu Out fits = sym (ap is_in_section fits)
 stage_busy rules opening acts cpu (Waiting lock edit ticket) fits = sym (ap is_in_section fits.0.0)
 stage_busy rules opening acts cpu (Holding lock edit block) fits = sym (ap is_in_section fits.0)
 
 -- the sections of legal actions are of CPUs that a machine may have
-pub sections_known : {E : Type 0} (acts : List (Action E)) → AreLegal acts → IsLawful IsKnown (sections_in acts)
+pub sections_known : {E : Type 0} (acts : List (Action E)) → AreLegal acts
+    → IsLawful IsKnown (sections_in acts)
 sections_known acts legal = sections_in_known acts (cpus_of_actions_known acts legal)

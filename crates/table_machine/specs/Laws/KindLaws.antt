@@ -1,18 +1,37 @@
 -- Both kinds of words agree with the counts.
-use Rattle.std.proofs.Common.{◌≡◌, ◌≢◌, ℕ, ◌+◌, ◌%◌, ◌^◌, ◌<◌, ◌≤◌, ◌==◌, if◌then◌else◌, refl, ◌∙◌, arith}
-use Rattle.event_log.{specs.{declared.ids.TheConstants.CPUS, Grants.after_give}, proofs.GrantWords.{fits_at_start, fits_after, served_exactly}}
-use Rattle.{event_log.proofs.Tickets.{same_rests, next_rests}, table_machine.specs.Kinds.{IsWordKind, first_words, grant_words, ticket_words}}
+use Rattle.std.proofs.Common.{◌≡◌, ◌≢◌, ℕ, ◌+◌, ◌%◌, ◌^◌, ◌<◌, ◌≤◌, ◌==◌, if◌then◌else◌, refl, ◌∙◌}
+use Rattle.std.proofs.Common.{arith}
+use Rattle.event_log.specs.{declared.ids.TheConstants.CPUS, Grants.after_give}
+use Rattle.event_log.proofs.GrantWords.{fits_at_start, fits_after, served_exactly}
+use Rattle.{event_log.proofs.Tickets.{same_rests, next_rests}, table_machine.specs.Kinds.IsWordKind}
+use Rattle.table_machine.specs.Kinds.{first_words, grant_words, ticket_words}
 
 pub tickets_are : IsWordKind ticket_words
 tickets_are = record {
   looks_within = λ ticket. omega arith;
   gives_within = λ ticket. omega arith;
   begins = λ w first. (first 0 (omega arith), first 1 (omega arith));
-  same = λ taken given w v equal fits. (equal 0 (omega arith) ∙ fits.0, equal 1 (omega arith) ∙ fits.1);
+  same =
+      λ taken given w v equal
+      fits. (equal 0 (omega arith) ∙ fits.0, equal 1 (omega arith) ∙ fits.1);
   next_is = λ taken given w fits. fits.0;
-  took = λ taken given w v fits next others. (next ∙ next_rests taken (w 0) fits.0, others 1 (omega arith) (λ e. omega arith) ∙ fits.1);
-  hits = λ taken given w fits ticket spot ahead close is. same_rests given spot (w 1) ticket ahead close fits.1 is;
-  gave = λ taken given w v fits ticket is serving others. (others 0 (omega arith) (λ e. omega arith) ∙ fits.0, serving ∙ next_rests given (w 1) fits.1);
+  took =
+      λ taken given w v fits next
+      others. (
+        next ∙ next_rests taken (w 0) fits.0,
+        others 1 (omega arith) (λ e. omega arith)
+            ∙ fits.1,
+      );
+  hits =
+      λ taken given w fits ticket spot ahead close is. same_rests given spot (w 1) ticket ahead
+      close fits.1 is;
+  gave =
+      λ taken given w v fits ticket is serving
+      others. (
+        others 0 (omega arith) (λ e. omega arith) ∙ fits.0,
+        serving
+            ∙ next_rests given (w 1) fits.1,
+      );
 }
 
 -- the first of the grant words opens with 1
@@ -21,7 +40,8 @@ first_grant k = grind arith
 
 -- a give writes one grant word
 granted : (given ticket k : ℕ) (w v : ℕ → ℕ) → v ((ticket + 1) % CPUS + 1) ≡ (ticket + 2) % 2 ^ 64
-    → ((i : ℕ) → i ≤ CPUS → i ≢ (ticket + 1) % CPUS + 1 → v i ≡ w i) → k < CPUS → v (k + 1) ≡ after_give ticket k (w (k + 1))
+    → ((i : ℕ) → i ≤ CPUS → i ≢ (ticket + 1) % CPUS + 1 → v i ≡ w i) → k < CPUS
+    → v (k + 1) ≡ after_give ticket k (w (k + 1))
 granted given ticket k w v here others within = grind arith
 
 pub grants_are : IsWordKind grant_words
@@ -42,9 +62,11 @@ grants_are = record {
     λ k within. rw (others (k + 1) (omega arith) (λ e. omega arith)) (fits.1 k within),
   );
   hits = λ taken given w fits ticket spot ahead close is.
-      served_exactly given spot ticket (ticket % CPUS) (w (ticket % CPUS + 1)) ahead close is refl (fits.1 (ticket % CPUS) (omega arith));
+      served_exactly given spot ticket (ticket % CPUS) (w (ticket % CPUS + 1)) ahead close is refl
+      (fits.1 (ticket % CPUS) (omega arith));
   gave = λ taken given w v fits ticket is here others. (
     others 0 (omega arith) (λ e. omega arith) ∙ fits.0,
-    λ k within. rw (granted given ticket k w v here others within) (fits_after k given ticket (w (k + 1)) within is (fits.1 k within)),
+    λ k within. rw (granted given ticket k w v here others within)
+        (fits_after k given ticket (w (k + 1)) within is (fits.1 k within)),
   );
 }

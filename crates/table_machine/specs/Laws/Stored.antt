@@ -1,7 +1,8 @@
 -- An example, only for tests: the words of a ticket lock that is released by a store agree with two
 -- exact counts.
 use Rattle.std.proofs.Common.{◌≢◌, ℕ, ◌≤◌, ◌∙◌, arith}
-use Rattle.{event_log.proofs.Tickets.{same_rests, next_rests}, table_machine.specs.{Kinds.IsWordKind, Stored.stored_words}}
+use Rattle.{event_log.proofs.Tickets.{same_rests, next_rests}, table_machine.specs.Kinds.IsWordKind}
+use Rattle.table_machine.specs.Stored.{stored_words}
 
 -- the words agree with the counts
 pub stored_are : IsWordKind stored_words
@@ -9,9 +10,25 @@ stored_are = record {
   looks_within = λ ticket. omega arith;
   gives_within = λ ticket. omega arith;
   begins = λ w first. (first 0 (omega arith), first 1 (omega arith));
-  same = λ taken given w v equal fits. (equal 0 (omega arith) ∙ fits.0, equal 1 (omega arith) ∙ fits.1);
+  same =
+      λ taken given w v equal
+      fits. (equal 0 (omega arith) ∙ fits.0, equal 1 (omega arith) ∙ fits.1);
   next_is = λ taken given w fits. fits.0;
-  took = λ taken given w v fits next others. (next ∙ next_rests taken (w 0) fits.0, others 1 (omega arith) (λ e. omega arith) ∙ fits.1);
-  hits = λ taken given w fits ticket spot ahead close is. same_rests given spot (w 1) ticket ahead close fits.1 is;
-  gave = λ taken given w v fits ticket is serving others. (others 0 (omega arith) (λ e. omega arith) ∙ fits.0, serving ∙ next_rests given ticket is);
+  took =
+      λ taken given w v fits next
+      others. (
+        next ∙ next_rests taken (w 0) fits.0,
+        others 1 (omega arith) (λ e. omega arith)
+            ∙ fits.1,
+      );
+  hits =
+      λ taken given w fits ticket spot ahead close is. same_rests given spot (w 1) ticket ahead
+      close fits.1 is;
+  gave =
+      λ taken given w v fits ticket is serving
+      others. (
+        others 0 (omega arith) (λ e. omega arith) ∙ fits.0,
+        serving
+            ∙ next_rests given ticket is,
+      );
 }

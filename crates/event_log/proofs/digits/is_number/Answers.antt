@@ -1,5 +1,4 @@
-use Rattle.std.proofs.{Common.{arith}, lemmas.Bool.Decides.nat_tests}
-use Rattle.event_log.proofs.DigitsLemmas.{is_number-empty, is_number-zero, is_number-digits}
+use Rattle.{std.proofs.{Common.arith, lemmas.Bool.Decides.nat_tests}, event_log.proofs.DigitsLemmas.{is_number-empty, is_number-zero, is_number-digits}}
 use Rattle.event_log.proofs.digits.is_number.Goals as goal
 
 pub returns-then-is_empty : goal.returns-then-is_empty

@@ -1,7 +1,6 @@
-use Rattle.std.proofs.{Common.{◌≡◌, ◌++◌, length, sym, subst, arith, rules}, lemmas.Grind.common_steps}
-use Rattle.std.specs.Vec.Iter.{into_iter_items}
-use Rattle.{shared_queue.proofs.OpeningLemmas.{all_there, blocks_there, homes_read}}
-use Rattle.shared_queue.{proofs.OpeningLemmas.{locks_distinct, queues_there, starts_well}, specs.Opening.{AreQueues, buffers_from}}
+use Rattle.std.{proofs.{Common.{◌≡◌, ◌++◌, length, sym, subst, arith, rules}, lemmas.Grind.common_steps}, specs.Vec.Iter.into_iter_items}
+use Rattle.shared_queue.{proofs.OpeningLemmas.{all_there, blocks_there, homes_read, locks_distinct, queues_there, starts_well}, specs.Opening.AreQueues}
+use Rattle.shared_queue.specs.Opening.{buffers_from}
 use Rattle.shared_queue.proofs.opening.queue_blocks.Goals as goal
 
 -- no lock occurs twice, each opens as it must, the pending queues record the homes, and each CPU

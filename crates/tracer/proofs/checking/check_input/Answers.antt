@@ -1,7 +1,5 @@
-use Rattle.std.{proofs.{Common.{Ok, ap, ◌∙◌}, lemmas.Result.err_from_is_err_and}}
-use Rattle.std.proofs.Common.{arith}
-use Rattle.tracer.{specs.{Parts.{held, verdict_behind}}, proofs.PartLemmas.judged_all}
-use Rattle.tracer.proofs.PartLemmas.{judged_part}
+use Rattle.std.proofs.{Common.{Ok, ap, ◌∙◌, arith}, lemmas.Result.err_from_is_err_and}
+use Rattle.tracer.{specs.Parts.{held, verdict_behind}, proofs.PartLemmas.{judged_all, judged_part}}
 use Rattle.tracer.proofs.checking.check_input.Goals as goal
 
 pub returns-in_err-ended-clause-retried : goal.returns-in_err-ended-clause-retried

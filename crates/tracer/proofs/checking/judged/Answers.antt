@@ -1,5 +1,4 @@
-use Rattle.std.proofs.{Common.{[], append-nil}, lemmas.List.take_rest}
-use Rattle.std.proofs.Common.{arith}
+use Rattle.std.proofs.{Common.{[], append-nil, arith}, lemmas.List.take_rest}
 use Rattle.tracer.proofs.checking.judged.Goals as goal
 
 pub returns : goal.returns

@@ -1,5 +1,4 @@
-use Rattle.std.proofs.Common.{arith}
-use Rattle.tracer.{specs.TraceText.kind_word, proofs.CommonLemmas.ends_behind_space}
+use Rattle.{std.proofs.Common.arith, tracer.{specs.TraceText.kind_word, proofs.CommonLemmas.ends_behind_space}}
 use Rattle.tracer.proofs.common_lines.call_before_space.Goals as goal
 
 pub returns-clause-ends : goal.returns-clause-ends

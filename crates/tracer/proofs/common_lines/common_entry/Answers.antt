@@ -1,7 +1,6 @@
 -- The pieces that were read one after another are the line of the entry that they make.
-use Rattle.std.{proofs.Common.{◌≡◌, ◌∙◌, ap}, specs.Prelude.{decimal}}
-use Rattle.event_log.specs.Messages.{Message}
-use Rattle.tracer.{specs.TraceText.{kind_word, value_piece}, proofs.CommonLemmas.{line_joined, value_of_one}}
+use Rattle.std.{proofs.Common.{◌≡◌, ◌∙◌, ap}, specs.Prelude.decimal}
+use Rattle.{event_log.specs.Messages.Message, tracer.{specs.TraceText.{kind_word, value_piece}, proofs.CommonLemmas.{line_joined, value_of_one}}}
 use Rattle.tracer.proofs.common_lines.common_entry.Goals as goal
 
 pub returns-clause-text : goal.returns-clause-text

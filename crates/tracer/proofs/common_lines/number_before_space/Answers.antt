@@ -1,5 +1,4 @@
-use Rattle.std.{proofs.Common.arith, specs.Prelude.decimal}
-use Rattle.tracer.proofs.CommonLemmas.{ends_behind_space}
+use Rattle.{std.{proofs.Common.arith, specs.Prelude.decimal}, tracer.proofs.CommonLemmas.ends_behind_space}
 use Rattle.tracer.proofs.common_lines.number_before_space.Goals as goal
 
 pub returns-clause-ends : goal.returns-clause-ends

@@ -1,5 +1,4 @@
-use Rattle.std.proofs.Common.{arith}
-use Rattle.tracer.proofs.MessageLemmas.{takes_first}
+use Rattle.{std.proofs.Common.arith, tracer.proofs.MessageLemmas.takes_first}
 use Rattle.tracer.proofs.effects.take.Goals as goal
 
 pub returns : goal.returns

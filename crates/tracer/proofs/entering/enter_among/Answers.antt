@@ -1,5 +1,4 @@
 use Rattle.{std.proofs.Common.arith, tracer.proofs.TallyLemmas.{entered, entered_nowhere}}
-use Rattle.std.proofs.Common.{arith}
 use Rattle.tracer.proofs.entering.enter_among.Goals as goal
 
 pub returns-then-b-buffers : goal.returns-then-b-buffers

@@ -1,6 +1,5 @@
 -- One read more.
-use Rattle.std.proofs.Common.{arith}
-use Rattle.tracer.proofs.PartLemmas.{read_more, read_then}
+use Rattle.{std.proofs.Common.arith, tracer.proofs.PartLemmas.{read_more, read_then}}
 use Rattle.tracer.proofs.parts.fill_behind.Goals as goal
 
 pub loop-filled-preserved : goal.loop-filled-preserved

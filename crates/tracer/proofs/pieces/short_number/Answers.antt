@@ -1,6 +1,5 @@
 -- The digits of a short number are the first piece, and the number is theirs.
-use Rattle.std.proofs.{Common.{arith, take_all}, lemmas.List.take_rest}
-use Rattle.{tracer.proofs.{NumeralLemmas.front_number, SplitLemmas.{digits_cut, digits_end}}}
+use Rattle.{std.proofs.{Common.{arith, take_all}, lemmas.List.take_rest}, tracer.proofs.{NumeralLemmas.front_number, SplitLemmas.{digits_cut, digits_end}}}
 use Rattle.tracer.proofs.pieces.short_number.Goals.{else-count-gt1-via-then-count-gt1+else-text-eq48, else-count-gt1-via-else-count-gt1}
 use Rattle.tracer.proofs.pieces.short_number.Goals as goal
 

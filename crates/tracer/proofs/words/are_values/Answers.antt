@@ -1,6 +1,5 @@
-use Rattle.std.proofs.Common.{◌∙◌}
-use Rattle.std.proofs.Common.{arith}
-use Rattle.tracer.{proofs.PieceLemmas.{piece_missing, none_left}}
+use Rattle.std.proofs.Common.{◌∙◌, arith}
+use Rattle.tracer.proofs.PieceLemmas.{piece_missing, none_left}
 use Rattle.tracer.proofs.words.are_values.Goals as goal
 
 pub returns-in_default : goal.returns-in_default

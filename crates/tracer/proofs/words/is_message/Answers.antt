@@ -1,5 +1,4 @@
-use Rattle.std.proofs.Common.{arith}
-use Rattle.tracer.{proofs.MessageLemmas.is_read}
+use Rattle.{std.proofs.Common.arith, tracer.proofs.MessageLemmas.is_read}
 use Rattle.tracer.proofs.words.is_message.Goals as goal
 
 pub returns-in-Ok : goal.returns-in-Ok

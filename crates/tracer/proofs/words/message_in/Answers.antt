@@ -1,5 +1,4 @@
-use Rattle.std.proofs.Common.{arith}
-use Rattle.tracer.proofs.MessageLemmas.{reads_number}
+use Rattle.{std.proofs.Common.arith, tracer.proofs.MessageLemmas.reads_number}
 use Rattle.tracer.proofs.words.message_in.Goals as goal
 
 pub returns-in-Some : goal.returns-in-Some

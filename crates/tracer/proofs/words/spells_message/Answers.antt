@@ -1,5 +1,4 @@
-use Rattle.std.proofs.Common.{arith}
-use Rattle.tracer.proofs.MessageLemmas.{not_spelled, spells_number}
+use Rattle.{std.proofs.Common.arith, tracer.proofs.MessageLemmas.{not_spelled, spells_number}}
 use Rattle.tracer.proofs.words.spells_message.Goals as goal
 
 pub returns-then-is_number : goal.returns-then-is_number

@@ -1,5 +1,4 @@
-use Rattle.{tracer.{specs.TraceText.cap_pieces, proofs.{SinkLemmas.all_out, LineLemmas.{numbered_out, numbered_failed}}}}
-use Rattle.std.proofs.Common.{arith}
+use Rattle.{tracer.{specs.TraceText.cap_pieces, proofs.{SinkLemmas.all_out, LineLemmas.{numbered_out, numbered_failed}}}, std.proofs.Common.arith}
 use Rattle.tracer.proofs.writing.put_caps.Goals as goal
 
 pub loop-b-preserved : goal.loop-b-preserved

@@ -1,5 +1,4 @@
-use Rattle.{tracer.proofs.{SinkLemmas.{outs_before, outs_on}, LineLemmas.line_text}}
-use Rattle.std.proofs.Common.{arith}
+use Rattle.{tracer.proofs.{SinkLemmas.{outs_before, outs_on}, LineLemmas.line_text}, std.proofs.Common.arith}
 use Rattle.tracer.proofs.writing.put_line.Goals as goal
 
 pub returns-in_err-put-clause-out : goal.returns-in_err-put-clause-out

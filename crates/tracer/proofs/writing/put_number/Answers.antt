@@ -1,5 +1,4 @@
-use Rattle.{tracer.proofs.SinkLemmas.{outs_before, outs_on}}
-use Rattle.std.proofs.Common.{arith}
+use Rattle.{tracer.proofs.SinkLemmas.{outs_before, outs_on}, std.proofs.Common.arith}
 use Rattle.tracer.proofs.writing.put_number.Goals as goal
 
 pub returns-in_err-put-clause-out : goal.returns-in_err-put-clause-out

@@ -1,5 +1,4 @@
-use Rattle.std.proofs.Common.{arith}
-use Rattle.std.proofs.Common.{◌≡◌, ◌<◌, List, Option, None, if◌then◌else◌, is_some, slice_set, true, false, Some}
+use Rattle.std.proofs.Common.{arith, ◌≡◌, ◌<◌, List, Option, None, if◌then◌else◌, is_some, slice_set, true, false, Some}
 use Rattle.layer_traits.specs.{declared.{conditions.CvOut.CvOut, locked.QOut.QOut, sleeps.Outcome.Outcome}, Layers.Conditions.{CvCall, cv_rules}}
 use Rattle.layer_traits.specs.Layers.{CvLaw.Waiting, QLocking.{lock_caller, lock_moves, lock_rules}, QLockLaw.{lock_kernel, slept_for}}
 use Rattle.layer_traits.specs.{Blocks.{Payloads.{cv_meant, lock_meant}, QueueRules.queue_rules}, Polling.Plans.table_of}

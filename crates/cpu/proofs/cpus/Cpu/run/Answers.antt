@@ -1,8 +1,7 @@
 use Rattle.std.proofs.Common.{◌≡◌, ◌+◌, None, rules, arith}
 use Rattle.{layer_traits.{specs.Layers.IpcLaw.ipc_plan, proofs.PollRunLemmas.looks_keep}, cpu.specs.CpuSteps.{RunsAt, stops_at}}
-use Rattle.cpu.proofs.CpuSteps.{CallRuns.looks_run, CpuRuns.{goes_later, runs_agree, runs_on, runs_room, some_taken}}
-use Rattle.cpu.proofs.OverLayer.CpuOverLayer.{laws_of, layered, runs_within}
-use Rattle.cpu.proofs.cpus.Cpu.run.{Given.Over, Goals.{After-go, After-looks}}
+use Rattle.cpu.proofs.{CpuSteps.{CallRuns.looks_run, CpuRuns.{goes_later, runs_agree, runs_on, runs_room, some_taken}}, OverLayer.CpuOverLayer.laws_of}
+use Rattle.cpu.proofs.{OverLayer.CpuOverLayer.{layered, runs_within}, cpus.Cpu.run.{Given.Over, Goals.{After-go, After-looks}}}
 use Rattle.cpu.proofs.cpus.Cpu.run.Goals as goal
 
 pub loop-most-init : goal.loop-most-init

@@ -1,5 +1,4 @@
-use Rattle.std.proofs.Common.{arith}
-use Rattle.event_log.{proofs.RingLemmas.{length-window, window_after_push}}
+use Rattle.{std.proofs.Common.arith, event_log.proofs.RingLemmas.{length-window, window_after_push}}
 use Rattle.event_log.proofs.rings.Ring.put_in.Goals as goal
 
 -- the write is after the last item, since the queue has room

@@ -1,5 +1,4 @@
-use Rattle.std.proofs.Common.{arith}
-use Rattle.event_log.{proofs.RingLemmas.window_before_pop}
+use Rattle.{std.proofs.Common.arith, event_log.proofs.RingLemmas.window_before_pop}
 use Rattle.event_log.proofs.rings.Ring.take_in.Goals as goal
 
 -- the old items are the item at the start, then the new items

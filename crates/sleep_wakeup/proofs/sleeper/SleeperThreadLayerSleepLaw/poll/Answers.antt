@@ -1,5 +1,4 @@
-use Rattle.std.proofs.Common.{arith}
-use Rattle.std.proofs.Common.{◌≡◌, Option, Some, None, refl, option_map, ap, subst, sym, ◌∙◌}
+use Rattle.std.proofs.Common.{arith, ◌≡◌, Option, Some, None, refl, option_map, ap, subst, sym, ◌∙◌}
 use Rattle.{event_log.specs.declared.ids.{BufId.BufId, Tid.Tid}, layer_traits.specs.declared.{payloads.Payload.Payload, scheds.SchedAnswer.SchedAnswer}}
 use Rattle.layer_traits.specs.{declared.{scheds.SchedCall.SchedCall, sleeps.Outcome.Outcome}, Blocks.Payloads.{sched_meant, sched_told, told_by}}
 use Rattle.layer_traits.specs.{Blocks.QueueBlocks.homes_in, Threads.Places.Threads, Polling.Plans.Left, Views.Renaming.{renamed_events, viewed}}

@@ -1,5 +1,4 @@
-use Rattle.{tracer.specs.Judging.{verdict_of}}
-use Rattle.std.proofs.Common.{arith}
+use Rattle.{tracer.specs.Judging.verdict_of, std.proofs.Common.arith}
 use Rattle.tracer.proofs.checking.TextJudge.new.Goals as goal
 
 pub returns-clause-judged : goal.returns-clause-judged

@@ -1,6 +1,5 @@
 use Rattle.std.proofs.{Common.{◌≡◌, ◌+◌, ◌<◌, [], length, take, Some, Ok, refl, arith}, lemmas.Bool.Decides.nat_tests}
-use Rattle.tracer.specs.{declared.checking.TextJudge.TextJudge, Tallies.progress_of}
-use Rattle.tracer.proofs.PartLemmas.{line_over, faulty_line_over, all_taken}
+use Rattle.tracer.{specs.{declared.checking.TextJudge.TextJudge, Tallies.progress_of}, proofs.PartLemmas.{line_over, faulty_line_over, all_taken}}
 use Rattle.tracer.proofs.checking.TextJudge.take_lines.Goals as goal
 
 pub returns-in-Err-clause-judged : goal.returns-in-Err-clause-judged

@@ -1,6 +1,5 @@
 -- The rest of the lines is still to be judged, and is shorter each time.
-use Rattle.std.proofs.Common.{length, take}
-use Rattle.tracer.proofs.PartLemmas.{AreTakenTo}
+use Rattle.{std.proofs.Common.{length, take}, tracer.proofs.PartLemmas.AreTakenTo}
 use Rattle.tracer.proofs.checking.TextJudge.take_lines.Given as goal
 
 abbrev pub invariant-loop-rest : goal.invariant-loop-rest

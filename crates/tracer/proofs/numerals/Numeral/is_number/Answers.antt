@@ -1,5 +1,4 @@
-use Rattle.std.proofs.Common.{arith}
-use Rattle.tracer.proofs.NumeralLemmas.{is_number_read}
+use Rattle.{std.proofs.Common.arith, tracer.proofs.NumeralLemmas.is_number_read}
 use Rattle.tracer.proofs.numerals.Numeral.is_number.Goals as goal
 
 pub returns-in-Some : goal.returns-in-Some
