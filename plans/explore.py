@@ -17,6 +17,7 @@ import re
 import sys
 from pathlib import Path
 
+import limits
 from asking import GRAMMAR, asked_for
 from kernel import WRONG, Kernel, run_alone
 from laws import order_of
@@ -108,7 +109,7 @@ def allowed(text):
 
 def page(run):
     """The page with a run in it: one file. A text that looks like markup is a text."""
-    script = packed("".join((HERE / name).read_text(encoding="utf-8") for name in ("look.js", "explore.js")))
+    script = packed(limits.script() + "".join((HERE / name).read_text(encoding="utf-8") for name in ("look.js", "explore.js")))
     style = packed((HERE / "look.css").read_text(encoding="utf-8") + place_style())
     pieces = {"/*STYLE*/": style, "/*SCRIPT*/": script, "/*RUN*/": json.dumps(run, separators=(",", ":")).replace("<", "\\u003c"),
               "POLICY": f"default-src 'none'; style-src {allowed(style)}; script-src {allowed(script)}"}

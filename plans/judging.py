@@ -1,4 +1,4 @@
-"""Judges a trace text as `mctower check` does, and says what is wrong with one that gets a no, and what is wanted there.
+"""Judges a trace text as `mctower check` does, and says what is wrong with one that gets a no, and what is expected there.
 
 `fault_in` returns the first line with a fault, or None. Nothing here is proved: tests/explain.py holds it against the program. It needs
 Python alone, 3.9 or later.
@@ -6,9 +6,9 @@ Python alone, 3.9 or later.
 from collections import deque
 
 from document import shown, strange_in
-from reading import CAPACITY, CPUS, BUFFERS, THREADS, WORD, WORDS, is_number, near
+from limits import BUFFERS, CAPACITY, CPUS, ENTRIES, THREADS, WORD, WORDS
+from reading import is_number, near
 
-ENTRIES = 1048576
 VERSIONS = ("mctower-trace 1", "mctower-trace 2", "mctower-trace 3")
 SEND, RECV, CLOSE = "sends", "receives", "closes"
 # Each kind of entry, by how it counts; whether its value is a message; and those that the first version has.
@@ -49,7 +49,7 @@ def numbers(pieces, names, bounds):
             raise spelling(f'"{shown(piece)}" is not a number: expected the {name}, in digits without a leading zero')
     for piece, name, (least, bound) in zip(pieces, names, bounds):
         if not is_number(piece, bound - 1) or int(piece) < least:
-            raise No("Range(31)", f"the {name} is {shown(piece)}: wanted {least} to {bound - 1}")
+            raise No("Range(31)", f"the {name} is {shown(piece)}: expected {least} to {bound - 1}")
     return [int(piece) for piece in pieces]
 
 
@@ -163,7 +163,7 @@ class Judge:
             hold_to_range(value)
         held = list(self.buffers[self.left].items)
         if pieces[2:] != held:
-            raise No("Left(37)", f"wanted {' '.join(['left', str(self.left), *held])}, what the entries leave")
+            raise No("Left(37)", f"expected {' '.join(['left', str(self.left), *held])}, what the entries leave")
         self.left += 1
         self.wanted = f"left {self.left}"
         if self.left == self.count:
@@ -191,9 +191,9 @@ def take_effect(buffer, b, kind, value, op, pos):
     """What an entry does to its buffer, or why it may not stand here."""
     group = GROUPS[kind]
     if op != buffer.effects:
-        raise No("Op(32)", f"the op is {op}: wanted {buffer.effects}, the number of entries of buffer {b} before it. Is one missing, or out of its place?")
+        raise No("Op(32)", f"the op is {op}: expected {buffer.effects}, the number of entries of buffer {b} before it. Is one missing, or out of its place?")
     if pos != buffer.counts[group]:
-        raise No("Pos(33)", f"the pos is {pos}: wanted {buffer.counts[group]}, the number of {group} of buffer {b} before it")
+        raise No("Pos(33)", f"the pos is {pos}: expected {buffer.counts[group]}, the number of {group} of buffer {b} before it")
     hold_to_closed(buffer, b, kind)
     if kind == "send":
         if len(buffer.items) == buffer.capacity:

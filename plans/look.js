@@ -281,9 +281,9 @@ const row = (name, inner, fresh) => `<dt>${name}</dt><dd class="${fresh}">${inne
 const SAID_TOO = "confirmed by the proved program";
 const proved = run => run.record.checked && !run.record.wrong ? `<span class="ok" role="img" aria-label="${SAID_TOO}" title="${SAID_TOO}">✓</span>` : "";
 
-// The word of a grant lock's ring of 16 behind so many grants.
+// The word of a grant lock's ring, a word for each CPU that there may be, behind so many grants.
 function grantWord(ticket, serving) {
-  const last = serving - ((serving - ticket) % 16 + 16) % 16;
+  const size = LIMITS.CPUS, last = serving - ((serving - ticket) % size + size) % size;
   return last < 0 ? 0 : last + 1;
 }
 function lockRow(run, at, name) {
@@ -293,7 +293,7 @@ function lockRow(run, at, name) {
     return `<span class="tag" title="ticket ${ticket}">CPU ${cpu} ${does}</span>`;
   });
   const tickets = [...new Set([lock.serving, ...lock.line.map(one => one.ticket)])];
-  const words = run.record.lock === "ticket" ? `, serving ${lock.serving}` : tickets.map(n => `, word ${n % 16}: ${grantWord(n, lock.serving)}`).join("");
+  const words = run.record.lock === "ticket" ? `, serving ${lock.serving}` : tickets.map(n => `, word ${n % LIMITS.CPUS}: ${grantWord(n, lock.serving)}`).join("");
   return row("spin lock", `${line.join(" ") || '<span class="none">nobody</span>'} <span class="lock">next ${lock.next}${words}</span>`, isNew(run, at, name));
 }
 

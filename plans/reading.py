@@ -12,14 +12,13 @@ if sys.version_info < (3, 9):
     sys.exit(f"{sys.argv[0]} needs Python 3.9 or later, and this is {sys.version.split()[0]}")
 
 from document import Array, Moment, NoDocument, Table, read_document, shown, strange_in  # noqa: E402
+from limits import BUFFERS, CAPACITY, CPUS, LINES, THREADS, TRACE, WORD, WORDS  # noqa: E402
 
-CPUS, THREADS, BUFFERS, CAPACITY, TRACE = 16, 256, 16, 32, 65536
-LINES, WORDS, WORD = 256, 8, 2**64
-REGISTERS = [f"r{i}" for i in range(8)]
+REGISTERS = [f"r{i}" for i in range(WORDS)]
 # The operands of each instruction: a register, a number, a buffer, a count of words, a target. Those after `?` are optional.
 INSTRUCTIONS = {"set": "rn", "add": "rr", "sub": "rr", "jnz": "rt", "send": "br?t", "sendm": "bw?t", "recv": "br?t", "recvm": "b?t", "close": "b",
                 "yield": "", "exit": ""}
-OPERANDS = {"r": "a register, r0 to r7", "n": f"a number, 0 to {WORD - 1}, in digits", "b": f"a buffer, 0 to {BUFFERS - 1}",
+OPERANDS = {"r": f"a register, r0 to {REGISTERS[-1]}", "n": f"a number, 0 to {WORD - 1}, in digits", "b": f"a buffer, 0 to {BUFFERS - 1}",
           "w": f"a count of words, 1 to {WORDS}", "t": "a line of the program, counted from 0"}
 
 
@@ -205,7 +204,7 @@ def read_thread(plan, number, thread):
     hold_to_key(thread, "program", THREAD_KEYS["program"], f"{where} program", line)
     program = thread["program"]
     if not 1 <= len(program) <= LINES:
-        fault = "line 256 TooLong(14)" if program else "line 0 Empty(15)"
+        fault = f"line {LINES} TooLong(14)" if program else "line 0 Empty(15)"
         raise Refusal(f"Guest(23) {where} {fault}", f"the program has {len(program)} lines: expected 1 to {LINES}", thread.lines["program"])
     for i, instruction in enumerate(program):
         fault, why = instruction_fault(instruction, len(program))

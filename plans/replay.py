@@ -17,10 +17,11 @@ import sys
 
 from guided import GROUPS, Guided, Wanted, schedule_towards
 from judging import fault_in
+from limits import MOST_STEPS
 from kernel import SIDES, Kernel, run_alone, spelled
 from like import entries_in
 from reading import Refusal, bytes_at, file_name, read_plan
-from schedules import MOST_STEPS, schedule_of
+from schedules import schedule_of
 
 MOST_STATES = 100_000
 LOOPS = 1_000_000

@@ -7,9 +7,9 @@ import re
 from itertools import groupby
 
 from document import shown, strange_in
+from limits import MOST_CPU, MOST_STEPS
 from reading import Refusal, as_many, is_number, read_plan
 
-MOST_CPU, MOST_STEPS = 255, 1048576
 EXPECTED = f"expected c or c*n, where c is a CPU, 0 to {MOST_CPU}, and n a number of steps, 1 to {MOST_STEPS}, without leading zeros"
 
 
