@@ -1,19 +1,22 @@
 #!/usr/bin/env python3
-"""Tries the library for C, Rust and Python over the proved program. It builds embed/out first (embed/build.py), if it is not there as it has to be.
+"""Tries the library for C, Rust, Python and Go over the proved program. It builds embed/out first (embed/build.py), if it is not there as it has to be.
 
     embed/test.py                  all kinds; the gate's
-    embed/test.py --only KIND..    these kinds only: names first scenes plus idle trial valgrind race rust python manual
+    embed/test.py --only KIND..    these kinds only: names first scenes plus idle trial lacks valgrind race rust python go installed
+                                   manual
     embed/test.py --library DIR    another library, as embed/out/trial
 
-`scenes` are programs in C with rows, most of them wrong calls, each with its named status; `first` is the program of embed/README.md; `plus` is C++; `idle`
-measures what a receiver that waits takes of a processor; `trial` is the host without the proved program; `race` is under ThreadSanitizer; `names` compares the
-numbers of the header, the host and the crate; `manual` reads the man page. What is left out, since a tool is missing, is said in the last lines.
+`scenes` are programs in C with rows, most of them wrong calls, each with its named status; `first` are the programs of embed/README.md; `plus` is C++; `idle`
+measures what a receiver that waits takes of a processor; `trial` is the host without the proved program; `lacks` is on an emulated processor that lacks an
+instruction (Debian: qemu-user); `race` is under ThreadSanitizer; `names` compares the numbers of the header, the host and the crate; `manual` reads the man
+page; `installed` is what pkg-config says of an installed library. What is left out, since a tool is missing, is said in the last lines.
 The last line is 'embed: N passed, M failed'. The status is 1 if one failed, and 77 if there is no C compiler.
 """
 import argparse
 import os
 import re
 import shutil
+import signal
 import subprocess
 import sys
 import tempfile
@@ -30,7 +33,7 @@ STRICT = "-std=c11 -D_GNU_SOURCE -g -Wall -Wextra -Werror".split()
 MOST_TOLD = 2000
 # Programs in C with the words that they are given, and how many seconds they have.
 PROGRAMS = [("numbers", [], 100), ("wrong", [], 20), ("bytes", [], 20), ("pointers", [], 100), ("memory", [], 60), ("forked", [], 20), ("threads", [], 20),
-            ("handovers", ["5000"], 110), ("crowd", ["800", "4", "20"], 100)]
+            ("handovers", ["5000"], 110), ("crowd", ["800", "4", "4"], 100), ("stacks", ["64"], 60)]
 SMALL = ["-DEACH=60"]
 REJECTED = re.compile(r"// rejected: (.*)")
 
@@ -84,15 +87,16 @@ def last_line(text):
 
 
 def first(tried):
-    """The program of README.md prints what the page says."""
-    page = (EMBED / "README.md").read_text()
-    shown = re.search(r"^```c\n(.*?)^```\n.*?^```text\n(.*?)^```", page, re.M | re.S)
-    source = tried.room / "first.c"
-    source.write_text(shown[1])
-    program = tried.compiled(source)
-    if program:
-        out = tried.runs("the first program", [program], 20)
-        tried.holds("the first program prints what README.md says", out == shown[2], out)
+    """The programs of README.md print what the page says, and the first has ten lines."""
+    shown = re.findall(r"^```c\n(.*?)^```\n.*?^```text\n(.*?)^```", (EMBED / "README.md").read_text(), re.M | re.S)
+    tried.holds("the first program has ten lines", shown[0][0].count("\n") == 10, shown[0][0])
+    for number, (text, printed) in enumerate(shown):
+        source = tried.room / f"first{number}.c"
+        source.write_text(text)
+        program = tried.compiled(source)
+        if program:
+            out = tried.runs(f"program {number} of README.md", [program], 20)
+            tried.holds(f"program {number} prints what README.md says", out == printed, out)
 
 
 def scenes(tried):
@@ -115,14 +119,18 @@ def plus(tried):
             tried.runs(f"plus by {standard}", [program], 20)
     ran = ended(["c++", "-std=c++17", f"-I{tried.library}", "-c", SCENES / "throws.cpp", "-o", tried.room / "throws.o"])
     tried.holds("C++17 rejects a body that may throw", ran.returncode and "noexcept" in ran.stdout, ran.stdout)
+    program = tried.compiled(SCENES / "throws.cpp", "-std=c++11")
+    if program:
+        out = tried.runs("before C++17 an exception out of a body", [program], 20, -signal.SIGABRT)
+        tried.holds("it ends in std::terminate", "terminate called" in out, out)
 
 
 def idle(tried):
     """A receiver that waits is under a hundredth of a processor; and so are four."""
     program = tried.compiled(SCENES / "idle.c")
     for receivers in (1, 4) if program else ():
-        out = tried.runs(f"idle, {receivers} receivers", [program, "2", str(receivers), "1"], 30)
-        print(f"embed: idle: {out.split(chr(10))[0]}", flush=True)
+        out = tried.runs(f"idle, {receivers} receivers", [program, "2", str(receivers), "1"], 70)
+        print(f"embed: idle: {', '.join(out.split(chr(10))[:2])}", flush=True)
 
 
 def trial(tried):
@@ -133,6 +141,13 @@ def trial(tried):
             build.linked(build.trial_object(room, *flags), folder)
         for name in programs:
             tried_over_host(tried, name, folder)
+
+
+def lacks(tried):
+    """On a processor that lacks an instruction (QEMU's emulation of one of 2006) the proved program gives a status, and the process continues."""
+    program = tried.has("qemu-x86_64", "a processor of x86-64-v1") and tried.compiled(SCENES / "ended.c")
+    if program:
+        tried.runs("on a processor of x86-64-v1", ["qemu-x86_64", "-cpu", "qemu64", program], 60)
 
 
 def tried_over_host(tried, name, folder):
@@ -183,6 +198,9 @@ def rust(tried):
     made = tried.room / "libtower.rlib"
     ran = ended([*words, "--crate-type", "rlib", "--crate-name", "tower", "-L", f"native={tried.library}", "-o", made, folder / "src/lib.rs"])
     tried.holds("the crate compiles", ran.returncode == 0, ran.stdout)
+    unsafe = re.findall(r"^(?!\s*//).*\bunsafe\b(.*)", (folder / "src/lib.rs").read_text(), re.M)
+    called = re.compile(r" \{ (CStr::from_ptr\()?sys::tower_\w+\(")
+    tried.holds("unsafe code is a call of the library", unsafe and all(called.match(it) for it in unsafe), "\n".join(unsafe))
     for path in sorted((folder / "scenes").glob("*.rs")):
         program = tried.room / f"rust-{path.stem}"
         ran = ended([*words, "--extern", f"tower={made}", "-o", program, path])
@@ -198,10 +216,41 @@ def rust(tried):
         tried.holds("the example of the crate runs", ran.returncode == 0 and "1 passed" in ran.stdout, ran.stdout)
 
 
+def go(tried):
+    """The package for Go, by cgo: vet finds nothing, and its scene."""
+    if not tried.has("go", "Go"):
+        return
+    named = {"CGO_CFLAGS": f"-I{tried.library}", "CGO_LDFLAGS": f"-L{tried.library}", "GOCACHE": str(tried.room / "go"), "GOPROXY": "off"}
+    how = {"cwd": EMBED / "go", "env": {**os.environ, **named}}
+    program = tried.room / "go-numbers"
+    tried.runs("go vet", ["go", "vet", "./..."], 100, **how)
+    tried.runs("go build", ["go", "build", "-o", program, "./scenes/numbers"], 100, **how)
+    out = tried.runs("the package's scene", [program], 60)
+    print(f"embed: {last_line(out)}", flush=True)
+
+
 def python(tried):
     seen = {**os.environ, "TOWER_LIBRARY": str(tried.library / "libtower.so")}
     out = tried.runs("the module's scenes", [sys.executable, EMBED / "python/scenes.py"], 60, env=seen)
     print(*(f"embed: {it}" for it in out.strip().split("\n")), sep="\n", flush=True)
+
+
+def installed(tried):
+    """What `embed/build.py --install` copies is found by pkg-config, statically and shared, and by man."""
+    if not tried.has("pkg-config", "an installed library") or tried.library != build.OUT:
+        return
+    prefix, source = tried.room / "usr", SCENES / "wrong.c"
+    build.install(prefix)
+    told = {**os.environ, "PKG_CONFIG_PATH": str(prefix / "lib/pkgconfig"), "LD_LIBRARY_PATH": str(prefix / "lib")}
+    for kind, asked in (("shared", []), ("static", ["--static"])):
+        words = ended(["pkg-config", "--cflags", "--libs", *asked, "tower"], env=told).stdout.split()
+        program = tried.room / f"{kind}-wrong"
+        ran = ended([*build.compiler(), *STRICT, source, *["-static"] * len(asked), *words, *["-lpthread"] * (not asked), "-o", program])
+        tried.holds(f"a program compiles with the {kind} library, as pkg-config says", ran.returncode == 0, ran.stdout)
+        tried.runs(f"a program over the {kind} library", [program], 20, env=told)
+    found = ended(["pkg-config", "--modversion", "tower"], env=told).stdout.strip()
+    tried.holds("pkg-config says the version", found == build.version(), found)
+    tried.holds("the man page is there", (prefix / "share/man/man3/tower.3").exists())
 
 
 def value(text, name):
@@ -244,7 +293,7 @@ def manual(tried):
         tried.holds("the man page reads without a warning", ran.returncode == 0 and "warning" not in ran.stdout.lower(), ran.stdout[-500:])
 
 
-KINDS = {it.__name__: it for it in (names, first, scenes, plus, idle, trial, valgrind, race, rust, python, manual)}
+KINDS = {it.__name__: it for it in (names, first, scenes, plus, idle, trial, lacks, valgrind, race, rust, python, go, installed, manual)}
 
 
 def main():

@@ -4,11 +4,13 @@
 #include <stdint.h>
 #include <stdlib.h>
 #include <string.h>
+#include "tower.h"
 
 #ifndef ENDS
 #define ENDS 0
 #endif
-enum { WORDS = 8, MESSAGES = 32, BUFFERS = 16, CALLERS = 16, PLAN = 18, TOLD = 10, ASKED = 11, LEFT = 4624 };
+enum { WORDS = TOWER_WORDS, MESSAGES = TOWER_CAPACITY, BUFFERS = TOWER_BUFFERS, CALLERS = TOWER_CALLERS };
+enum { PLAN = 2 + BUFFERS, TOLD = 2 + WORDS, ASKED = 3 + WORDS, LEFT = BUFFERS * (1 + MESSAGES * (1 + WORDS)) };
 
 void tower_host_plan(uint64_t *, size_t);
 void tower_host_next(uint64_t, const uint64_t *, size_t, uint64_t *, size_t);

@@ -6,8 +6,8 @@
     embed/wrong_hosts.py NAME..          these only
 
 An edit of embed/wrong names in its line `seen:` the scenes that see it. After a line `file:`, which names a file of embed/host, each line `old:` is replaced
-by the line `new:` below it. A fault is seen if one of the scenes differs, crashes, or does not end in 15 seconds; without the edit they pass. Without a C
-compiler it says so, and its status is 77. The last line is 'embed: N passed, M failed'; a fault that is not seen is a failure.
+by the line `new:` below it. A fault is seen if one of the scenes differs, crashes, or does not end in 15 seconds, in which it passes without the edit. Without
+a C compiler it says so, and its status is 77. The last line is 'embed: N passed, M failed'; a fault that is not seen is a failure.
 """
 import argparse
 import shutil
@@ -19,31 +19,14 @@ from pathlib import Path
 sys.dont_write_bytecode = True
 import build  # noqa: E402
 import test  # noqa: E402
+from planting import planted  # noqa: E402
 
 WRONG = build.EMBED / "wrong"
 OF_GATE = ["a_wake_is_lost", "a_caller_in_a_call_is_called", "a_register_is_lost"]
-WORDS = {"idle": ["1", "1", "30"], "handovers": ["400", "quiet"]}
-FLAGS = {"numbers": ["-DEACH=2000"]}
+WORDS = {"idle": ["1", "1", "30", "6"], "handovers": ["400", "quiet"]}
+FLAGS = {"numbers": ["-DEACH=500"]}
 SECONDS = 15
-
-
-def planted(edit, host):
-    """Makes an edit in a copy of the host, and returns the scenes that see it."""
-    scenes, path, old = [], None, None
-    for line in edit.read_text().splitlines():
-        key, _, text = line.partition(": ")
-        if key == "seen":
-            scenes = text.split()
-        elif key == "file":
-            path = host / text
-        elif key == "old":
-            old = text
-        elif key == "new":
-            whole = path.read_text()
-            if whole.count(old) != 1:
-                sys.exit(f"embed: {edit.name}: its old text is in {path.name} {whole.count(old)} times: {old}")
-            path.write_text(whole.replace(old, text))
-    return scenes
+LATE = f"it does not end in {SECONDS} s"
 
 
 def library_over(host, room, is_trial):
@@ -62,7 +45,7 @@ def difference(scene, library, room):
     try:
         ran = test.ended([program, *WORDS.get(scene, [])], timeout=SECONDS)
     except subprocess.TimeoutExpired:
-        return f"it does not end in {SECONDS} s"
+        return LATE
     return f"status {ran.returncode}: {ran.stdout.strip().split(chr(10))[0][:120]}" if ran.returncode else None
 
 
@@ -76,7 +59,7 @@ def seen(edit):
         library = library_over(room / "embed/host", room, "ended" in scenes)
         for scene in scenes:
             how = difference(scene, library, room)
-            if how:
+            if how and (how != LATE or not difference(scene, build.OUT, room)):
                 return f"{scene}: {how}"
     return None
 

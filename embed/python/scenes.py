@@ -12,7 +12,7 @@ import threading
 import time
 
 sys.dont_write_bytecode = True
-EACH = 2000
+EACH = 600
 
 
 class Rows:

@@ -28,12 +28,12 @@ static int later(const void *a, const void *b) { return *(const double *)a > *(c
 
 static double opening(void) {
   double took[OPENINGS];
-  uint8_t capacities[16];
-  memset(capacities, 32, sizeof capacities);
+  uint8_t capacities[TOWER_BUFFERS];
+  memset(capacities, TOWER_CAPACITY, sizeof capacities);
   for (int k = 0; k < OPENINGS; k++) {
     tower *t;
     double began = seconds(CLOCK_THREAD_CPUTIME_ID);
-    is("open", tower_open(&t, capacities, 16, 16), TOWER_OK);
+    is("open", tower_open(&t, capacities, TOWER_BUFFERS, TOWER_CALLERS), TOWER_OK);
     took[k] = 1000 * (seconds(CLOCK_THREAD_CPUTIME_ID) - began);
     is("shut", tower_shut(t, 0), TOWER_OK);
   }

@@ -57,17 +57,19 @@ static void counted(void) {
 static void to_the_end(void) {
   tower *t;
   tower_caller *c;
-  tower_rest rest[16];
-  uint8_t capacities[16];
-  memset(capacities, 32, sizeof capacities);
-  is("open", tower_open(&t, capacities, 16, 16), TOWER_OK);
+  tower_rest rest[TOWER_BUFFERS];
+  uint8_t capacities[TOWER_BUFFERS];
+  const uint64_t most = TOWER_CAPACITY, all = most * TOWER_BUFFERS;
+  memset(capacities, TOWER_CAPACITY, sizeof capacities);
+  is("open", tower_open(&t, capacities, TOWER_BUFFERS, TOWER_CALLERS), TOWER_OK);
   long before = allocations;
   is("take", tower_take(t, &c), TOWER_OK);
-  for (uint64_t k = 0; k < 16 * 32; k++) is("send", tower_send(c, k / 32, (uint64_t[]){k, k, k, k, k, k, k, k}, 8), TOWER_OK);
+  for (uint64_t k = 0; k < all; k++) is("send", tower_send(c, k / most, (uint64_t[]){k, k, k, k, k, k, k, k}, 8), TOWER_OK);
   is("leave", tower_leave(c), TOWER_OK);
   is("shut", tower_shut(t, rest), TOWER_OK);
   is("none of that takes memory", allocations, before);
-  for (uint64_t k = 0; k < 16 * 32; k++) is("rest", rest[k / 32].messages[k % 32].words[7] + 100 * rest[k / 32].messages[k % 32].count, k + 800);
+  for (uint64_t k = 0; k < all; k++)
+    is("rest", rest[k / most].messages[k % most].words[7] + 100 * rest[k / most].messages[k % most].count, k + 800);
 }
 
 static long addresses(void) {
@@ -81,9 +83,9 @@ static long addresses(void) {
 
 static void limited(void) {
   int seen[128] = {0};
-  uint8_t capacities[16];
+  uint8_t capacities[TOWER_BUFFERS];
   struct rlimit was, now;
-  memset(capacities, 32, sizeof capacities);
+  memset(capacities, TOWER_CAPACITY, sizeof capacities);
   getrlimit(RLIMIT_AS, &was);
   long first = addresses();
   for (long room = 0; room < 60l << 20; room += 480l << 10) {
@@ -91,7 +93,7 @@ static void limited(void) {
     now = was;
     now.rlim_cur = first + room;
     setrlimit(RLIMIT_AS, &now);
-    int status = tower_open(&t, capacities, 16, 16);
+    int status = tower_open(&t, capacities, TOWER_BUFFERS, TOWER_CALLERS);
     setrlimit(RLIMIT_AS, &was);
     seen[status & 127]++;
     if (!status) is("shut", tower_shut(t, 0), TOWER_OK);

@@ -3,7 +3,7 @@
 #include <stdatomic.h>
 
 #ifndef EACH
-#define EACH 5000
+#define EACH 1000
 #endif
 static atomic_int done;
 

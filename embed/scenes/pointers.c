@@ -4,7 +4,7 @@
 #include <string.h>
 
 #ifndef EACH
-#define EACH 5000
+#define EACH 2000
 #endif
 struct record {
   uint64_t number;

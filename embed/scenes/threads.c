@@ -20,6 +20,28 @@ static void *calls(void *at) {
   return 0;
 }
 
+static void *opens(void *none) {
+  uint64_t words[8];
+  size_t count;
+  tower *t;
+  tower_caller *c;
+  is("open", tower_open(&t, (uint8_t[]){2}, 1, 16), TOWER_OK);
+  is("take", tower_take(t, &c), TOWER_OK);
+  is("send", tower_send_bytes(c, 0, "bytes", 5), TOWER_OK);
+  is("recv", tower_recv_bytes(c, 0, words, &count), TOWER_OK);
+  is("close", tower_close(c, 0), TOWER_OK);
+  is("leave", tower_leave(c), TOWER_OK);
+  is("shut", tower_shut(t, 0), TOWER_OK);
+  return none;
+}
+
+/* Each call needs no more of its thread's stack than the least that a thread may have. */
+static void opens_in_a_small_thread(const pthread_attr_t *least) {
+  pthread_t thread;
+  is("a thread", pthread_create(&thread, least, opens, 0), 0);
+  pthread_join(thread, 0);
+}
+
 static void goes_round(void) {
   tower *t;
   pthread_attr_t least;
@@ -33,6 +55,7 @@ static void goes_round(void) {
     is("a thread", pthread_create(&thread, &least, calls, (void *)k), 0);
     pthread_join(thread, 0);
   }
+  opens_in_a_small_thread(&least);
   is("leave", tower_leave(passed), TOWER_OK);
   is("shut", tower_shut(t, 0), TOWER_OK);
 }

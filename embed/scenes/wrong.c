@@ -6,20 +6,20 @@
 
 static uint64_t words[9] = {7, 8, 9};
 static size_t count;
-static tower_body *const none[17];
+static tower_body *const none[TOWER_CALLERS + 1];
 static void no_calls(tower_caller *c, void *arg) { (void)c, (void)arg; }
 
 static void openings(void) {
   tower *t = (tower *)words;
   is("open: no callers", tower_open(&t, (uint8_t[]){1}, 1, 0), TOWER_BAD_CALLERS);
   is("open: the handle is null then", t == 0, 1);
-  is("open: 17 callers", tower_open(&t, (uint8_t[]){1}, 1, 17), TOWER_BAD_CALLERS);
+  is("open: a caller too many", tower_open(&t, (uint8_t[]){1}, 1, TOWER_CALLERS + 1), TOWER_BAD_CALLERS);
   is("open: 2^32 + 1 callers", tower_open(&t, (uint8_t[]){1}, 1, ((size_t)1 << 32) + 1), TOWER_BAD_CALLERS);
   is("open: as many callers as there are numbers", tower_open(&t, (uint8_t[]){1}, 1, (size_t)-1), TOWER_BAD_CALLERS);
-  is("open: 17 buffers", tower_open(&t, (uint8_t[17]){1}, 17, 1), TOWER_BAD_BUFFERS);
-  is("open: 2^32 buffers", tower_open(&t, (uint8_t[17]){1}, (size_t)1 << 32, 1), TOWER_BAD_BUFFERS);
+  is("open: a buffer too many", tower_open(&t, (uint8_t[TOWER_BUFFERS + 1]){1}, TOWER_BUFFERS + 1, 1), TOWER_BAD_BUFFERS);
+  is("open: 2^32 buffers", tower_open(&t, (uint8_t[TOWER_BUFFERS + 1]){1}, (size_t)1 << 32, 1), TOWER_BAD_BUFFERS);
   is("open: capacity 0", tower_open(&t, (uint8_t[]){1, 0}, 2, 1), TOWER_BAD_CAPACITY);
-  is("open: capacity 33", tower_open(&t, (uint8_t[]){33}, 1, 1), TOWER_BAD_CAPACITY);
+  is("open: a place too many", tower_open(&t, (uint8_t[]){TOWER_CAPACITY + 1}, 1, 1), TOWER_BAD_CAPACITY);
   is("open: capacity 255", tower_open(&t, (uint8_t[]){1, 255}, 2, 1), TOWER_BAD_CAPACITY);
   is("open: no place for the handle", tower_open(0, (uint8_t[]){1}, 1, 1), TOWER_NULL);
   is("open: no capacities", tower_open(&t, 0, 1, 1), TOWER_NULL);
@@ -56,7 +56,7 @@ static void nulls(tower *t, tower_caller *c) {
 
 static void numbers(tower *t, tower_caller *c) {
   is("send: buffer 1 of 1", tower_send(c, 1, words, 1), TOWER_BAD_BUFFER);
-  is("send: buffer 16", tower_send(c, 16, words, 1), TOWER_BAD_BUFFER);
+  is("send: a buffer too many", tower_send(c, TOWER_BUFFERS, words, 1), TOWER_BAD_BUFFER);
   is("send: 256 is not buffer 0", tower_send(c, 256, words, 1), TOWER_BAD_BUFFER);
   is("send: 2^32 is not buffer 0", tower_send(c, (size_t)1 << 32, words, 1), TOWER_BAD_BUFFER);
   is("send: the last number", tower_send(c, (size_t)-1, words, 1), TOWER_BAD_BUFFER);
@@ -75,10 +75,12 @@ static void numbers(tower *t, tower_caller *c) {
   is("recv_bytes: buffer 1 of 1", tower_recv_bytes(c, 1, words, &count), TOWER_BAD_BUFFER);
 }
 
-static void *waits(void *caller) { /* for a message in buffer 0 */
+static void *waits(void *caller) { /* for a message in buffer 0, once the other thread is not in its call */
   uint64_t got[8];
   size_t many;
-  is("a receive that waits", tower_recv(caller, 0, got, &many), TOWER_OK);
+  int status = TOWER_BUSY;
+  while (status == TOWER_BUSY) status = tower_recv(caller, 0, got, &many);
+  is("a receive that waits", status, TOWER_OK);
   return 0;
 }
 

@@ -14,7 +14,7 @@ fn produced() {
                 .enumerate()
                 .map(|(me, mut to)| {
                     s.spawn(move || {
-                        for number in 0..5000u64 {
+                        for number in 0..1000u64 {
                             to.send(&[me as u64, number]).expect("open");
                         }
                         to
@@ -33,7 +33,7 @@ fn produced() {
         })
     })
     .expect("a tower");
-    let all: Vec<u64> = (0..5000).collect();
+    let all: Vec<u64> = (0..1000).collect();
     assert!(seen[0] == all && seen[1] == all && left[0].is_empty());
 }
 
@@ -68,6 +68,26 @@ fn bytes_and_left() {
     assert!(length == 11 && left[0].is_empty() && *left[1][0] == [7]);
 }
 
+/// Copies of halves, each with a caller of its own, until there are no more callers; an error as `?` passes it on.
+fn copies() -> Result<(), Box<dyn std::error::Error>> {
+    let (sum, _) = tower::open(&[2], 5, |t| {
+        let buffer = t.buffer(0).expect("a buffer");
+        let (to, from) = (t.sender(buffer)?, t.receiver(buffer)?);
+        let (froms, tos) = ([from.try_clone()?, from], [to.try_clone()?, to.try_clone()?, to]);
+        assert_eq!(tos[2].try_clone().err(), Some(Error::NoCaller));
+        let sum = thread::scope(|s| {
+            let receivers = froms.map(|from| s.spawn(move || from.map(|message| message[0]).sum::<u64>()));
+            let senders = tos.map(|mut to| s.spawn(move || (1..=40u64).try_for_each(|k| to.send(&[k])).map(|()| to)));
+            let mut ends = senders.map(|it| it.join().expect("a sender"));
+            ends[0].as_mut().expect("open").close().expect("open");
+            receivers.map(|it| it.join().expect("a receiver")).iter().sum::<u64>()
+        });
+        Ok::<_, Error>(sum)
+    })?;
+    assert_eq!(sum?, 3 * 820);
+    Err(tower::open(&[0], 1, |_| ()).unwrap_err())?
+}
+
 fn a_panic_shuts_the_tower() {
     let hook = std::panic::take_hook();
     std::panic::set_hook(Box::new(|_| ()));
@@ -81,6 +101,7 @@ fn main() {
     produced();
     each_error();
     bytes_and_left();
+    assert_eq!(copies().map_err(|it| it.to_string()), Err(Error::BadCapacity.to_string()));
     a_panic_shuts_the_tower();
     println!("rust: all as wanted");
 }

@@ -23,6 +23,7 @@
 //! assert_eq!((sum, left[0].len()), (45, 0));
 //! ```
 use std::ffi::{c_char, c_int, c_void, CStr};
+use std::iter::FusedIterator;
 use std::marker::PhantomData;
 use std::ops::Deref;
 use std::sync::atomic::{AtomicPtr, Ordering};
@@ -257,7 +258,15 @@ pub struct Buffer<'t> {
 /// A caller, which one thread uses at a time. It leaves when it is dropped.
 pub struct Caller<'t> {
     handle: Handle,
+    tower: Handle,
     mark: Mark<'t>,
+}
+
+// Takes a caller of an open tower, whose mark the caller gets.
+fn taken<'t>(tower: &Handle) -> Result<Caller<'t>, Error> {
+    let mut at = ptr::null_mut();
+    judged(unsafe { sys::tower_take(tower.at(), &mut at) })?;
+    Ok(Caller { handle: Handle(AtomicPtr::new(at)), tower: Handle(AtomicPtr::new(tower.at())), mark: PhantomData })
 }
 
 // Shuts a tower, also where the closure panics.
@@ -295,9 +304,7 @@ impl<'t> Tower<'t> {
 
     /// Takes a caller.
     pub fn caller(&self) -> Result<Caller<'t>, Error> {
-        let mut at = ptr::null_mut();
-        judged(unsafe { sys::tower_take(self.handle.at(), &mut at) })?;
-        Ok(Caller { handle: Handle(AtomicPtr::new(at)), mark: PhantomData })
+        taken(&self.handle)
     }
 
     /// Takes a caller that sends to this buffer.
@@ -370,14 +377,19 @@ impl Drop for Caller<'_> {
     }
 }
 
-/// The sending half of a buffer, with a caller of its own. Another half needs another caller, and there are at most 16:
-/// a half has no `Clone`, and [`Tower::sender`] returns a further one or an error.
+/// The sending half of a buffer, with a caller of its own. A copy needs another caller, and there are at most 16, so a
+/// half has no `Clone`: [`Sender::try_clone`] returns a copy or an error.
 pub struct Sender<'t> {
     caller: Caller<'t>,
     to: Buffer<'t>,
 }
 
-impl Sender<'_> {
+impl<'t> Sender<'t> {
+    /// A further sending half of the same buffer; [`Error::NoCaller`] if all callers are taken.
+    pub fn try_clone(&self) -> Result<Sender<'t>, Error> {
+        Ok(Sender { caller: taken(&self.caller.tower)?, to: self.to })
+    }
+
     /// As [`Caller::send`].
     pub fn send(&mut self, message: &impl Words) -> Result<(), Error> {
         self.caller.send(self.to, message)
@@ -400,7 +412,12 @@ pub struct Receiver<'t> {
     from: Buffer<'t>,
 }
 
-impl Receiver<'_> {
+impl<'t> Receiver<'t> {
+    /// A further receiving half of the same buffer; [`Error::NoCaller`] if all callers are taken.
+    pub fn try_clone(&self) -> Result<Receiver<'t>, Error> {
+        Ok(Receiver { caller: taken(&self.caller.tower)?, from: self.from })
+    }
+
     /// As [`Caller::recv`].
     pub fn recv(&mut self) -> Result<Message, Error> {
         self.caller.recv(self.from)
@@ -423,3 +440,5 @@ impl Iterator for Receiver<'_> {
         }
     }
 }
+
+impl FusedIterator for Receiver<'_> {}
