@@ -38,12 +38,13 @@ from machine import MACHINES, PC  # noqa: E402
 TARGETS = {
     "x86_64": "--target=x86_64-unknown-none-elf -march=x86-64 -mno-red-zone".split(),
     "riscv64": "--target=riscv64-unknown-none-elf -march=rv64gc -mabi=lp64d -mcmodel=medany".split(),
-    "aarch64": "--target=aarch64-unknown-none-elf -march=armv8-a -mno-outline-atomics".split(),
+    "aarch64": "--target=aarch64-unknown-none-elf -march=armv8-a -mno-outline-atomics -mstrict-align".split(),  # before there are pages
 }
 CHECKED = """-O2 -ffreestanding -fno-builtin -fno-pic -fno-stack-protector -fno-asynchronous-unwind-tables -nostdinc -Wall -Wextra
     -Wno-unused-parameter -Werror --no-default-config -c""".split()
 PORTED = "-O2 -ffunction-sections -fdata-sections --no-default-config -fno-pic -Wno-override-module -x ir -c".split()
 LINK = "--gc-sections --fatal-warnings -z max-page-size=4096".split()
+PLACES = {"x86_64": 0x100000, "riscv64": 0x80200000, "aarch64": 0x40200000}  # of the image: behind the firmware, and where a loader takes it to
 
 # What is of x86-64 in the module, and what stands for it: its layout, its name, the probes of its stack, its processor, and the pause of a thread that spins.
 LAYOUTS = {
@@ -111,7 +112,7 @@ def linked(program, out, host=HOST, machine=PC, flags=()):
         objects.append(compiled(program, room, machine, host, flags) if program.suffix == ".c" else program)
         out.parent.mkdir(exist_ok=True)
         raw = ["--oformat", "binary"] if machine.name == "aarch64" else []
-        run(tool("ld.lld"), *LINK, *raw, "-T", own / "link.ld", "-o", out, *objects)
+        run(tool("ld.lld"), *LINK, *raw, f"--defsym=image_at={PLACES[machine.name]}", "-T", host / "link.ld", "-o", out, *objects)
 
 
 def object_built(room):

@@ -3,8 +3,12 @@ import os
 import re
 import shutil
 import subprocess
+import sys
 import tempfile
 from pathlib import Path
+
+sys.path.append(str(Path(__file__).resolve().parent.parent / "plans"))
+from limits import CPUS  # noqa: E402
 
 SECONDS = int(os.environ.get("METAL_SECONDS", 300))  # that a run may take
 HUNG, NO_RUN = 117, 118  # statuses: the run did not end in time; QEMU ended by itself, or did not begin
@@ -24,10 +28,9 @@ class Machine:
         return shutil.which(self.qemu) is not None
 
     def processors(self, count, by_turns, cpu):
-        """How QEMU runs so many processors: each in a thread of its own, or by turns in one thread. There an x86 processor's pause passes the turn on,
-        so they are told to be one's own: no yield halts."""
+        """How QEMU runs so many processors: each in a thread of its own, or by turns in one thread."""
         way = "single" if by_turns else "multi"
-        kind = ["-cpu", f"{cpu},-hypervisor" if by_turns else cpu] if self.name == "x86_64" else []
+        kind = ["-cpu", cpu] if self.name == "x86_64" else []
         return ["-accel", f"tcg,thread={way}", *kind, "-smp", str(count)]
 
     def status(self, code):
@@ -57,7 +60,7 @@ def own_processors(words, plan):
     text = " ".join(words[1:])
     found = re.search(r"--cpus[= ]\+?(\d+)", text) if words[:1] == ["count"] else re.search(rb"^\s*cpus\s*=\s*(\d+)", plan, re.M)
     has_threads = words[:1] in (["count"], ["threads"]) and found
-    return min(max(int(found[1][:3]), 1), 16) if has_threads else 1
+    return min(max(int(found[1][:3]), 1), CPUS) if has_threads else 1
 
 
 def ran(asked, room, machine=PC):

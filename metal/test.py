@@ -40,12 +40,14 @@ ROOT = build.ROOT
 sys.path.append(str(ROOT / "tests"))
 import damaged  # noqa: E402
 import random_plan  # noqa: E402
+from limits import CAPACITY, CPUS, TRACE  # noqa: E402
 
 NATIVE = ROOT / "crates/mctower/out/mctower"
 OTHER = ROOT / "crates/mctower/out/mctower.by-rattle.o"
 LESSON = ROOT / "docs/book/14-bare-processors.md"
 UEFI = Path("/usr/share/ovmf/OVMF.fd")
 MOST_TOLD, LONGEST_TOLD = 20, 2000
+HAS_X2APIC = 9  # the first version of QEMU
 DAMAGED_AT = 7  # the seed of what is damaged
 ALL_TURNS = "1000000000"
 LOCKS = ("ticket", "grant")
@@ -139,7 +141,7 @@ LINES = [
     ["--"], ["-h"], ["run", "--schedul", "0"], ["run", "--schedule"], ["run", "--schedule", ""], ["run", "--schedule", "0*"], ["run", "--", "x"],
     ["run", "--schedule", "0*21", "--schedule", "0"], ["run", "--schedule", "9" * 5000], ["--schedule= 0 "], ["run", "--schedule", " 0*10 , 0*11 "],
     ["run", "--schedule", ",".join(["0"] * 9000)], ["run", "--schedule", "0*4," * 2500 + "0*20"], ["count"],
-    ["count", "--cpus", "17", "--times", "1"], ["count", "--cpus", "0", "--times", "1"],
+    ["count", "--cpus", str(CPUS + 1), "--times", "1"], ["count", "--cpus", "0", "--times", "1"],
     ["count", "--cpus=+2", "--times"], ["count", "--cpus", "2", "--times", "1001"], ["count", "--cpus", "2", "--times", "1", "--lock", "mcs"], ["threads"],
     ["threads", "--turns", "0"], ["threads", "--turns", "1000000001"], ["check", "x"], ["é"], ["a b"], ["'"], ['"'], ["\\"], ["a\nb"], ["x" * 300], ["\udcff"],
     ["run", "\udcff"], [""], ["it's \"so\"", "\\'"],
@@ -162,8 +164,8 @@ def count(held):
         wanted = 0, f"plain {total}\ntable {total}\n".encode(), b""
         words = ["count", "--cpus", str(cpus), "--times", str(times), "--lock", lock]
         return unlike(held.booted(words, processors=processors, by_turns=by_turns), wanted)
-    for processors, by_turns in ((1, False), (2, False), (3, False), (4, False), (16, False), (2, True), (16, True)):
-        for cpus in (1, 2, 3, 5, 8, 16):
+    for processors, by_turns in ((1, False), (2, False), (3, False), (4, False), (CPUS, False), (2, True), (CPUS, True)):
+        for cpus in (1, 2, 3, 5, 8, CPUS):
             for lock in LOCKS:
                 for times in (1, 100, 1000):
                     how = " by turns" if by_turns else ""
@@ -233,13 +235,14 @@ def rows(held):
             yield f"a hundred messages {lock} on {processors}", lambda lock=lock, n=processors: hundred(held, lock, n)
 
 
-ALL_SEND = ",".join(f"{cpu}*65536" for cpu in range(16))
+ALL_SEND = ",".join(f"{cpu}*{TRACE}" for cpu in range(CPUS))
 
 
 def with_full_traces():
     """A plan whose CPUs send and receive for ever."""
     program = '["send 0 r0", "recv 0 r0", "jnz r1 0", "set r1 1", "jnz r1 0"]'
-    return ("cpus = 16\ntrace = 65536\nbuffers = [32]\n" + "".join(f"[[thread]]\ncpu = {cpu}\nprogram = {program}\n" for cpu in range(16))).encode()
+    threads = "".join(f"[[thread]]\ncpu = {cpu}\nprogram = {program}\n" for cpu in range(CPUS))
+    return f"cpus = {CPUS}\ntrace = {TRACE}\nbuffers = [{CAPACITY}]\n{threads}".encode()
 
 
 def lacking(held):
@@ -248,13 +251,28 @@ def lacking(held):
     return None if (status, out) == (126, b"") and err.startswith(b"this machine lacks a feature") else f"{status} {out} {err}"
 
 
+def more_than_255(held):
+    """Firmware sets x2APIC mode on a machine of 280 processors, of which the host drives 64."""
+    with tempfile.TemporaryDirectory() as folder:
+        room = Path(folder)
+        (room / "tower.elf").symlink_to(held.image.resolve())
+        words = [*machine.PC.processors(280, True, "max"), "-M", "q35", "-m", "512", "-kernel", "tower.elf", "-append", "count --cpus 16 --times 9"]
+        return unlike(machine.ran(words, room), (0, b"plain 144\ntable 144\n", b""))
+
+
+def version_of_qemu():
+    """The first number of QEMU's version on a PC."""
+    said = subprocess.run([machine.PC.qemu, "--version"], capture_output=True, text=True, check=False).stdout
+    return int(re.search(r"version (\d+)", said)[1])
+
+
 def small(held):
     """Machines with too little memory, or too old a processor: each refuses by name, the program what it asks for, the host what it needs."""
     long_text = b"mctower-trace 1\n" + b"#" * (1 << 24)
     few, many = ["count", "--cpus", "2", "--times", "9"], ["count", "--cpus", "16", "--times", "9"]
     full_traces = ["run", "--schedule", ALL_SEND], with_full_traces()
     table = [
-        ("enough for sixteen threads", many, b"", 1, 40 if held.machine.name == "aarch64" else 32, (0, b"plain 144\ntable 144\n", b"")),
+        ("enough for sixteen threads", many, b"", 1, 32, (0, b"plain 144\ntable 144\n", b"")),
         ("enough for two threads", few, b"", 2, 16, (0, b"plain 18\ntable 18\n", b"")),
         ("no room for traces", *full_traces, 1, 64, (1, b"", b"error: NoMemory(1)\n")),
         ("long words", ["run", "--schedule", "0," * 70000], b"", 1, 64, (118, b"", b"metal: the words are longer than QEMU takes\n")),
@@ -271,6 +289,8 @@ def small(held):
     if held.machine is not machine.PC:
         return
     yield "a processor that lacks a feature", lambda: lacking(held)
+    if version_of_qemu() >= HAS_X2APIC:
+        yield "more than 255 processors", lambda: more_than_255(held)
     yield "more processors than are driven", lambda: unlike(held.booted(many, b"", 100, by_turns=True), (0, b"plain 144\ntable 144\n", b""))
     for cpu, wanted in OLD_PROCESSORS:
         yield f"-cpu {cpu}", lambda cpu=cpu, wanted=wanted: of_old(held.booted(["--version"], cpu=cpu), wanted)
@@ -291,7 +311,7 @@ TRIALS = [
     ("at-0", 1, 125, FAULT), ("calls-0", 1, 125, FAULT), ("constant", 1, 125, FAULT), ("code", 1, 125, FAULT), ("data", 1, 125, FAULT),
     ("memory", 1, 7, b""), ("joins", 1, 7, b""), ("instruction", 1, 7, b""), ("answers", 1, 7, b""), ("errors", 4, 7, b""), ("detached", 2, 7, b""),
     ("wait", 1, 122, b"host: every thread waits\n"), *(("all-wait", processors, 122, b"host: every thread waits\n") for processors in (1, 2, 8)),
-    ("absent", 2, 121, b"host: processors that came: 2 of 3\n"), *(("rounds", processors, 7, b"") for processors in (1, 2, 3, 4, 8)),
+    ("absent", 2, 121, b"host: a processor did not start\n"), *(("rounds", processors, 7, b"") for processors in (1, 2, 3, 4, 8)),
     ("hand-over", 4, 7, b""), *((f"spread{processors}", processors, 7, b"") for processors in (1, 3, 8)), ("full-elsewhere", 2, 125, FULL),
     ("together", 4, 125, b"host: an instruction that is none, number "), ("slices", 1, 7, b""), ("slices", 2, 7, b""), ("registers", 2, 7, b""),
 ]
@@ -366,7 +386,7 @@ def disk(held):
         yield f"{words} by GRUB and BIOS", lambda words=words, path=path: one(words, path, [])
     if UEFI.exists():
         yield "threads by GRUB and UEFI", lambda: one(*table[0], ["-bios", UEFI])
-    for name, reads, firmware in [("BIOS", typing_at.letters, []), ("UEFI", typing_at.dots, ["-bios", UEFI])]:
+    for name, reads, firmware in [("BIOS", typing_at.dots, []), ("UEFI", typing_at.dots, ["-bios", UEFI])]:
         if not firmware or UEFI.exists():
             yield f"the shell by GRUB and {name}, a keyboard and no serial line", lambda it=(reads, firmware): shell_of_disk(held, *it)
 

@@ -60,7 +60,7 @@ static int is_full(void) {
   return WRONG;
 }
 static void *fills_its_stack(void *of) {
-  kept = deep(1000000);
+  kept = deep(26000); /* more than a stack, and less than two */
   return of;
 }
 static int is_full_elsewhere(void) {
@@ -103,8 +103,10 @@ static int moves_overlap(void) {
 /* ---- exceptions */
 
 static int is_bad(void) { __builtin_trap(); }
+/* None yields, so that all are on their processors. */
 static void *fails_with_others(void *of) {
-  meet();
+  __atomic_add_fetch(&met, 1, __ATOMIC_SEQ_CST);
+  while (__atomic_load_n(&met, __ATOMIC_SEQ_CST) < wanted);
   __builtin_trap();
 }
 static int is_bad_together(void) {
@@ -137,8 +139,9 @@ static int writes_code(void) {
   return WRONG;
 }
 static int runs_data(void) {
-  static byte data[16] = {0xC3}; /* a return */
-  ((void (*)(void))data)();
+  static volatile byte data[16];
+  data[0] = 0xC3; /* a return */
+  ((void (*)(void))(size)data)();
   return WRONG;
 }
 
@@ -199,6 +202,19 @@ static int hands_over(void) {
   return RIGHT;
 }
 
+/* The number of the processor that runs, by itself; a hart in supervisor mode has it from what SBI left. */
+static unsigned own_number(void) {
+#ifdef __x86_64__
+  unsigned leaf = 1, it;
+  __asm__ volatile("cpuid" : "+a"(leaf), "=b"(it) : : "ecx", "edx");
+  return it >> 24;
+#elif defined __aarch64__
+  return own_name() % 256 + own_name() / 256 * 16;
+#else
+  return me()->number;
+#endif
+}
+
 /* So many processors as the word's last digit says run THREADS threads, each some. */
 static void *notes_processor(void *of) {
   meet();
@@ -251,6 +267,17 @@ static int shares_time(void) {
   return kept ? RIGHT : WRONG;
 }
 
+/* What lies beneath the stack is there after some slices, where the program may use it. */
+static int keeps_red_zone(size of) {
+  size is = of;
+#ifdef __x86_64__
+  size turns = 300000;
+  __asm__ volatile("movq %0, -128(%%rsp); movq %0, -8(%%rsp); 1: decq %1; jnz 1b; movq -8(%%rsp), %0; addq -128(%%rsp), %0; shrq $1, %0"
+                   : "+r"(is), "+r"(turns) : : "memory", "cc");
+#endif
+  return is == of;
+}
+
 static void *sums(void *of) {
   size sum = 0, again = 0;
   double half = 0, half_again = 0;
@@ -262,7 +289,7 @@ static void *sums(void *of) {
     free(p);
   }
   for (size i = 0; i < 30000; i++) again += i * (size)of, half_again += (double)(size)of * 0.5;
-  return (void *)(size)(sum == again && half == half_again);
+  return (void *)(size)(sum == again && half == half_again && keeps_red_zone((size)of));
 }
 static int keeps_registers(void) {
   for (int round = 0; round < 3; round++)
@@ -327,7 +354,9 @@ static int has_instruction(void) { return RIGHT; }
 
 static int answers(void) {
   struct tried wide = rattle_alloc(100, 64);
+  byte part[3];
   int is_right = lseek(0, 0, 1) == -1 && rattle_errno() == NO_SEEK && (!wide.ok || (size)wide.p % 64 == 0) && moves_overlap();
+  is_right &= rattle_arg(0, part, sizeof part) == -2 && part[0] == 't' && part[1] == 'o' && part[2] == 'w'; /* the first word does not fit */
   is_right &= syscall(FUTEX, &gate, WAIT, 5) == -1 && rattle_errno() == TRY_AGAIN && write(3, 0, 0) == -1 && rattle_errno() == WRONG_FILE;
   return is_right ? RIGHT : WRONG;
 }

@@ -98,7 +98,7 @@ def steps(held):
 
 def many(held, count=100):
     """Many commands on one boot, with little memory: what each leaves of the heap is forgotten."""
-    console = Console(held, memory=64)
+    console = Console(held, memory=32)
     console.until(PROMPT)
     line, plan = "run --schedule 0*21 < one-send", (ROOT / "plans/one-send.toml").read_bytes()
     wanted, fault = answered(held.native, line, plan), None

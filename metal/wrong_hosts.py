@@ -23,29 +23,11 @@ os.environ.setdefault("METAL_SECONDS", "20")
 import build  # noqa: E402
 import machine  # noqa: E402
 import test  # noqa: E402
+from planting import planted  # noqa: E402
 
 WRONG = build.METAL / "wrong"
 OF_GATE = ["a_record_is_taken_twice", "a_wake_is_lost", "all_threads_on_one_processor", "two_stacks_are_one"]
 CASES = 60  # of a kind, at most
-
-
-def planted(edit, host):
-    """Makes an edit in a copy of the host, and returns the kinds that see it."""
-    kinds, path, old = [], None, None
-    for line in edit.read_text().splitlines():
-        key, _, text = line.partition(": ")
-        if key == "seen":
-            kinds = text.split()
-        elif key == "file":
-            path = host / text
-        elif key == "old":
-            old = text
-        elif key == "new":
-            whole = path.read_text()
-            if whole.count(old) != 1:
-                sys.exit(f"metal: {edit.name}: its old text stands {whole.count(old)} times in {path.name}: {old}")
-            path.write_text(whole.replace(old, text))
-    return kinds
 
 
 def first_difference(held, kinds):

@@ -1,17 +1,16 @@
 /* Bytes, memory, pages, the heap, and the stacks of threads. */
 #include "host.h"
 
-void *memcpy(void *restrict to, const void *restrict from, size bytes) {
-  for (size at = 0; at < bytes; at++) ((byte *)to)[at] = ((const byte *)from)[at];
-  return to;
-}
 void *memmove(void *to, const void *from, size bytes) {
-  if ((size)to - (size)from >= bytes) /* to does not lie in what is still to be read */
-    for (size at = 0; at < bytes; at++) ((byte *)to)[at] = ((const byte *)from)[at];
+  byte *into = to;
+  const byte *of = from;
+  if ((size)to - (size)from >= bytes) /* `to` does not lie in what is still to be read */
+    for (size at = 0; at < bytes; at++) into[at] = of[at];
   else
-    while (bytes--) ((byte *)to)[bytes] = ((const byte *)from)[bytes];
+    while (bytes--) into[bytes] = of[bytes];
   return to;
 }
+void *memcpy(void *to, const void *from, size bytes) { return memmove(to, from, bytes); }
 void *memset(void *to, long value, size bytes) {
   for (size at = 0; at < bytes; at++) ((byte *)to)[at] = value;
   return to;
@@ -21,21 +20,17 @@ int begins_with(const char *text, const char *wanted) {
   while (*wanted && *wanted == *text) wanted++, text++;
   return !*wanted;
 }
-int is_same(const char *text, const char *wanted) {
-  while (*wanted && *wanted == *text) wanted++, text++;
-  return *wanted == *text;
-}
+int is_same(const char *text, const char *wanted) { return begins_with(text, wanted) && begins_with(wanted, text); }
 
-/* A lock of the host's own. Nobody who holds one waits or yields, and no interrupt comes, so its owner always runs. Interrupts come again with the last that
-   a thread gives back; in a processor's own loop they stay off. */
+/* A lock of the host's own. Nobody who holds one waits, yields or takes another, and no interrupt comes, so its owner always runs. In a processor's own loop
+   interrupts stay off behind it. */
 void lock(int *it) {
   interrupts_off();
-  me()->locks++;
   while (__atomic_exchange_n(it, 1, __ATOMIC_ACQUIRE)) pause();
 }
 void unlock(int *it) {
   __atomic_store_n(it, 0, __ATOMIC_RELEASE);
-  if (--me()->locks == 0 && me()->runs) interrupts_on();
+  if (me()->runs) interrupts_on();
 }
 
 /* ---- memory, as loaders and the firmware tell of it */
@@ -52,91 +47,93 @@ void has_memory(size start, size end) {
 void uses(size start, size end) {
   if (used_count < MOST_REGIONS) used[used_count++] = (struct region){start, end};
 }
-void has_input(size start, size end) {
-  input = (struct region){start, end};
-  uses(start, end);
-}
 
-/* How far memory goes on from an address with nobody using it, up to an end. */
-static size free_end(size start, size end) {
-  for (unsigned i = 0; i < used_count; i++) {
-    if (used[i].start <= start && start < used[i].end) return start;
-    if (start < used[i].start && used[i].start < end) end = used[i].start;
-  }
-  return end;
-}
-
-/* The largest region of memory that nobody uses: it begins where a region does, or behind what is used. */
+/* The largest region of memory that nobody uses. Each region is cut in two by what is used of it. */
 static struct region largest(void) {
   struct region best = {0, 0};
-  for (unsigned i = 0; i < memory_count * (used_count + 1); i++) {
-    struct region it = memory[i % memory_count];
-    unsigned behind = i / memory_count;
-    size start = behind < used_count ? used[behind].end : it.start;
-    if (start < it.start || start >= it.end) continue;
-    size end = free_end(start, it.end);
-    if (end - start > best.end - best.start) best = (struct region){start, end};
+  for (unsigned i = 0; i < memory_count; i++) {
+    struct region it = memory[i];
+    for (unsigned j = 0; j < used_count; j++) {
+      if (used[j].end <= it.start || used[j].start >= it.end) continue;
+      if (used[j].end < it.end) has_memory(used[j].end, it.end);
+      it.end = used[j].start > it.start ? used[j].start : it.start;
+    }
+    if (it.end - it.start > best.end - best.start) best = it;
   }
   return best;
 }
 
 /* ---- pages: each address is at itself. There are 4 GiB, in pages of 2 MiB, some of them cut into pages of 4 KiB before any other processor begins */
 
-enum { STACKS = MOST_THREADS * STACK_BYTES / LARGE_PAGE, MOST_CUT = STACKS + 8 };
+enum { MOST_CUT = MOST_THREADS * STACK_BYTES / LARGE_PAGE + 8 };
 size directories[4 * 512] __attribute__((aligned(PAGE)));
-static size *cut[4 * 512];
+static size *cut[4 * 512]; /* the table of a page that is cut */
 
-/* There is no page at 0; code and constants are not written; nothing but code is run. */
-static enum kind kind_of(size at) {
-  if (at < (size)image_start || at >= (size)constants_end) return at < PAGE ? NO_PAGE : DATA;
-  return at < (size)text_end ? CODE : CONSTANT;
-}
-
-static void cut_page(size large) {
+/* Sets one page of 4 KiB. */
+static void set_page(size at, enum kind kind) {
   static size tables[MOST_CUT][512] __attribute__((aligned(PAGE)));
   static unsigned count;
-  if (cut[large]) return;
-  if (count == MOST_CUT) ends("host: the image is too large", NO_ROOM);
-  cut[large] = tables[count++];
-  for (size i = 0; i < 512; i++) cut[large][i] = page_entry(large * LARGE_PAGE + i * PAGE, kind_of(large * LARGE_PAGE + i * PAGE));
-  directories[large] = table_entry((size)cut[large]);
+  size large = at / LARGE_PAGE;
+  if (!cut[large]) {
+    if (count == MOST_CUT) ends("host: the image is too large", NO_ROOM);
+    cut[large] = tables[count++];
+    for (size i = 0; i < 512; i++) cut[large][i] = page_entry(large * LARGE_PAGE + i * PAGE, DATA);
+    directories[large] = table_entry((size)cut[large]);
+  }
+  cut[large][at / PAGE % 512] = page_entry(at, kind);
 }
 
+/* There is no page at 0; code and constants are not written; nothing but code is run. */
 void set_pages(void) {
-  cut_page(0);
   for (size i = 0; i < 4 * 512; i++)
-    if ((size)image_start < (i + 1) * LARGE_PAGE && i * LARGE_PAGE < (size)image_end)
-      cut_page(i);
-    else if (!cut[i])
-      directories[i] = large_entry(i * LARGE_PAGE);
+    if (!cut[i]) directories[i] = large_entry(i * LARGE_PAGE);
+  set_page(0, NO_PAGE);
+  for (size at = (size)image_start; at < (size)constants_end; at += PAGE) set_page(at, at < (size)text_end ? CODE : CONSTANT);
 }
 
-/* ---- the heap: free blocks are in a list, by address. Stacks are laid down from its end */
+/* ---- stacks of 1 MiB, one for each thread, at the end of the heap. The least 64 KiB of each are not there: a full stack is a page fault */
+
+size stacks;
+unsigned stack_count;
+
+/* Whether there is no page since the stack above it ends there. */
+int is_guard(size address) { return address - stacks < (size)stack_count * STACK_BYTES && (address - stacks) % STACK_BYTES < GUARD_BYTES; }
+
+/* Takes two thirds of a region from its end, or as much as all threads need. */
+static void set_stacks(struct region room) {
+  size count = (room.end - room.start) / (STACK_BYTES + STACK_BYTES / 2);
+  stack_count = count < MOST_THREADS ? count : MOST_THREADS;
+  if (stack_count == 0) ends("host: too little memory", NO_ROOM);
+  stacks = (room.end & ~(size)(PAGE - 1)) - (size)stack_count * STACK_BYTES;
+  for (size at = stacks; at < room.end; at += PAGE)
+    if (is_guard(at)) set_page(at, NO_PAGE);
+}
+
+/* ---- the heap: free blocks are in a list, by address */
 
 struct block { size bytes; struct block *next; }; /* a block begins with its bytes; `next` is of a free one */
 enum { HEAD = 16, LEAST_BLOCK = 32 };
 static struct block *free_blocks;
-static size heap_start, heap_end;
+static size heap;
 static int heap_lock;
 
 static size end_of(const struct block *it) { return (size)it + it->bytes; }
 
-/* All that is no stack is free. */
+/* All of it is free. */
 void begin_heap(void) {
-  free_blocks = (struct block *)heap_start;
-  *free_blocks = (struct block){heap_end - heap_start, 0};
+  free_blocks = (struct block *)heap;
+  *free_blocks = (struct block){stacks - heap, 0};
 }
 
-/* Looks at what the loader left, and takes the largest region for the heap. A loader need not look whether what it loads fits. */
+/* Looks at what the loader left, and takes the largest region for the heap and the stacks. A loader need not look whether what it loads fits. */
 void set_memory(void) {
   size top = 0;
   for (unsigned i = 0; i < memory_count; i++) top = memory[i].end > top ? memory[i].end : top;
   if (input.end > top) ends("host: the plan is larger than the memory", NO_ROOM);
-  struct region heap = largest();
-  heap_start = (heap.start + HEAD - 1) & ~(size)(HEAD - 1);
-  heap_end = heap.end & ~(size)(PAGE - 1);
-  if (heap_start + 2 * STACK_BYTES > heap_end) ends("host: too little memory", NO_ROOM);
-  for (size i = 0, large = (heap_end - 1) / LARGE_PAGE; i <= STACKS && (large - i + 1) * LARGE_PAGE > heap_start; i++) cut_page(large - i);
+  uses(input.start, input.end);
+  struct region room = largest();
+  set_stacks(room);
+  heap = (room.start + HEAD - 1) & ~(size)(HEAD - 1);
   forget_pages();
   begin_heap();
 }
@@ -159,8 +156,6 @@ static byte *take(size bytes) {
   return it ? (byte *)it + HEAD : 0;
 }
 
-static size room_of(const byte *p) { return *(const size *)(p - HEAD) - HEAD; }
-
 /* Puts a block back into the list, and joins it with the free ones about it. */
 void rattle_dealloc(byte *p) {
   struct block *it = (struct block *)(p - HEAD), *before = 0, **at = &free_blocks;
@@ -179,7 +174,7 @@ struct tried rattle_alloc(size bytes, size align) {
   return (struct tried){p != 0, p ? p : &nowhere};
 }
 struct tried rattle_realloc(byte *p, size kept, size bytes, size align) {
-  if (bytes <= room_of(p)) return (struct tried){1, p};
+  if (bytes <= *(const size *)(p - HEAD) - HEAD) return (struct tried){1, p};
   struct tried moved = rattle_alloc(bytes, align);
   if (!moved.ok) return moved;
   memcpy(moved.p, p, kept);
@@ -189,21 +184,4 @@ struct tried rattle_realloc(byte *p, size kept, size bytes, size align) {
 void *malloc(size bytes) { return take(bytes); }
 void free(void *p) {
   if (p) rattle_dealloc(p);
-}
-
-/* Gives a thread a stack of 1 MiB, the least 64 KiB of which are not there: a full stack is a page fault. Returns whether as much memory is left for the heap.
-   A thread that ended keeps its stack for the next that gets its record. */
-int has_stack(struct thread *it) {
-  lock(&heap_lock);
-  struct block *last = free_blocks;
-  while (last && last->next) last = last->next;
-  if (!it->stack_end && last && end_of(last) == heap_end && last->bytes >= 2 * STACK_BYTES) {
-    it->stack_end = (byte *)heap_end;
-    last->bytes -= STACK_BYTES;
-    heap_end -= STACK_BYTES;
-    it->guard = (byte *)heap_end;
-    for (size at = heap_end; at < heap_end + GUARD_BYTES; at += PAGE) cut[at / LARGE_PAGE][at / PAGE % 512] = page_entry(at, NO_PAGE);
-  }
-  unlock(&heap_lock);
-  return it->stack_end != 0;
 }

@@ -2,7 +2,6 @@
    is in the image, `< NAME`, or else is typed, up to a control-D. `step NAME` runs a plan again at each key, by a schedule that grows. */
 #include "host.h"
 
-long main(void); /* the program's own */
 extern const struct plan { const char *name; size start, end; } plans[], plans_end[]; /* build.py puts them into the image */
 enum { MOST_LETTERS = 1000, CONTROL_D = 4, BACK = '\b', DELETE = 127 };
 static int is_running, left; /* whether a command of the program runs, and the status that the last one left */
@@ -15,10 +14,8 @@ static void tell(const char *text) {
 void leave_command(int status) {
   if (!is_running) return;
   left = status;
-  end_command();
+  give_back(ENDS);
 }
-
-static void *run_command(void *none) { _exit(main()); }
 
 /* Runs the program with these words, and forgets what it left of the heap. */
 static void command(const char *words, const struct plan *plan) {
@@ -27,7 +24,7 @@ static void command(const char *words, const struct plan *plan) {
   input = plan ? (struct region){plan->start, plan->end} : (struct region){0, 0};
   begin_typed(!plan);
   is_running = 1;
-  if (pthread_create(&thread, &none, run_command, 0)) ends("host: too little memory", NO_ROOM);
+  if (pthread_create(&thread, &none, run_program, 0)) ends("host: too little memory", NO_ROOM);
   pthread_join(thread, 0);
   is_running = 0;
   input.end = 0;
@@ -35,15 +32,13 @@ static void command(const char *words, const struct plan *plan) {
 }
 
 /* The plan of a name, with or without its .toml; or 0, which is told. */
-static const struct plan *named(const char *name) {
+static const struct plan *named(char *name) {
   size length = 0;
   while (*name == ' ') name++;
   while (name[length] && name[length] != ' ') length++;
-  for (const struct plan *it = plans; it < plans_end; it++) {
-    size i = 0;
-    while (i < length && it->name[i] == name[i]) i++;
-    if (length && i == length && (!it->name[i] || is_same(it->name + i, ".toml"))) return it;
-  }
+  name[length] = 0;
+  for (const struct plan *it = plans; length > 0 && it < plans_end; it++)
+    if (begins_with(it->name, name) && (!it->name[length] || is_same(it->name + length, ".toml"))) return it;
   tell("there is no such plan; ls lists them\n");
   return 0;
 }
@@ -52,7 +47,8 @@ static const struct plan *named(const char *name) {
 static byte ask_key(void) {
   byte one;
   begin_typed(0);
-  return read(0, &one, 1) == 1 ? one == DELETE ? BACK : one : CONTROL_D;
+  if (read(0, &one, 1) != 1) return CONTROL_D;
+  return one == DELETE ? BACK : one;
 }
 
 /* Reads a line, and shows it as it grows. */
@@ -73,19 +69,18 @@ static void ask(char *line) {
 static void step(const struct plan *plan) {
   static const char begins[] = "run --schedule=";
   static char line[sizeof begins + 4 * MOST_LETTERS];
-  size at = sizeof begins - 1, first = at;
+  size first = sizeof begins - 1, at = first;
   memcpy(line, begins, sizeof begins);
   for (byte one = 0; one != 'q' && one != CONTROL_D; one = ask_key()) {
     unsigned cpu = one >= '0' && one <= '9' ? one - '0' : one >= 'a' && one <= 'f' ? one - 'a' + 10 : 16;
-    if (one && one != BACK && cpu == 16) continue;
-    if (one == BACK) {
-      while (at > first && line[at - 1] != ',') at--;
-      at -= at > first;
-    } else if (one && at + 4 < sizeof line) {
+    if (one == BACK)
+      while (at > first && line[--at] != ',');
+    else if (cpu < 16 && at + 4 < sizeof line) {
       if (at > first) line[at++] = ',';
       if (cpu > 9) line[at++] = '1';
       line[at++] = '0' + cpu % 10;
-    }
+    } else if (one)
+      continue;
     line[at] = 0;
     tell("\n\n");
     tell(line);
@@ -109,7 +104,7 @@ static void obey(char *line) {
   say("\n");
 }
 
-_Noreturn void shell(void) {
+void *shell(void *none) {
   static char line[MOST_LETTERS + 1];
   tell("The verified thread tower. help lists the commands.\n");
   for (;;) {

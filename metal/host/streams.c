@@ -6,6 +6,7 @@
 enum { MOST_WORDS = 1 << 18 };
 static char words[MOST_WORDS]; /* each is ended by a 0 */
 static size words_length;
+static int is_typed; /* whether the first word says so of the standard input of the program, which has the words behind it */
 int is_shell;
 
 static void put_letter(char letter) {
@@ -37,13 +38,28 @@ void set_words(const char *text) {
   has_words(text);
 }
 
+/* Word i, or 0 if there is no such word. */
+static const char *word(size i) {
+  size at = 0;
+  for (; i > 0 && at < words_length; at++) i -= !words[at];
+  return at < words_length ? words + at : 0;
+}
+
+/* Looks whether the first word is one for the host. */
+void take_first_word(void) {
+  const char *first = word(1);
+  is_shell = first && is_same(first, "shell");
+  is_typed = first && is_same(first, "typed");
+  is_listening = is_shell || is_typed;
+}
+
 /* Puts word i at the start of a buffer. Returns its length, -1 if there is no such word, and -2 if it does not fit; then the buffer is full. */
 long rattle_arg(size i, byte *buffer, size room) {
-  size start = 0, length = 0;
-  for (; i > 0 && start < words_length; start++) i -= !words[start];
-  if (start == words_length) return -1;
-  while (words[start + length]) length++;
-  memcpy(buffer, words + start, length < room ? length : room);
+  const char *it = word(i > 0 && is_typed ? i + 1 : i);
+  size length = 0;
+  if (!it) return -1;
+  while (it[length]) length++;
+  memcpy(buffer, it, length < room ? length : room);
   return length <= room ? (long)length : -2;
 }
 
@@ -51,13 +67,12 @@ long rattle_arg(size i, byte *buffer, size room) {
 
 struct line lines[3];
 static int lines_lock;
-static struct processor *ender; /* the one that ends the run */
 
 enum { MOST_TYPED = 1 << 10, END_OF_INPUT = 4 };
 static byte typed[MOST_TYPED];
-static size typed_in, typed_out; /* how many bytes came in, and how many went out */
-static int typed_lock, is_typed, is_over, is_echoed;
-int is_listening;
+static _Atomic size typed_in, typed_out; /* how many bytes came in, and how many went out */
+static int typed_lock, is_over, is_echoed;
+int is_listening; /* whether anything is typed at all */
 
 /* Sets a 16550 to 115,200 baud, 8 bits, no parity, with queues. What was typed before the boot is kept. */
 struct line line_16550(size at) {
@@ -90,7 +105,6 @@ long __write(long fd, const byte *bytes, size count) { return write(fd, bytes, c
 void say(const char *text) {
   for (; *text; text++) put(2, *text);
 }
-
 void say_number(size number, unsigned base) {
   char text[24] = {0}, *at = text + sizeof text - 1;
   do *--at = "0123456789abcdef"[number % base]; while (number /= base);
@@ -99,31 +113,17 @@ void say_number(size number, unsigned base) {
 }
 
 /* ---- standard input: what the loader left; or, where the first word is `typed` or `shell`, what is typed. An interrupt tells of it. It goes from the line's
-   own queue, which is short, to a longer one, whenever the first processor goes through its loop or a thread reads; a read waits until there is some. */
+   own queue, which is short, to a longer one, whenever the first processor goes through its loop; a read waits until there is some. */
 
-/* Takes the first word where it is one for the host. */
-void take_first_word(void) {
-  enum { TAKEN = 6 };
-  size at = 0;
-  while (at < words_length && words[at++]);
-  is_shell = at < words_length && is_same(words + at, "shell");
-  is_typed = is_shell || (at < words_length && is_same(words + at, "typed"));
-  if (!is_typed) return;
-  words_length -= TAKEN;
-  memmove(words + at, words + at + TAKEN, words_length - at);
-}
-
+/* Puts what was typed into the longer queue. The first processor alone does. */
 void take_typed(void) {
-  if (!is_listening) return;
-  lock(&typed_lock);
   size before = typed_in;
-  for (int one = 0; one >= 0 && typed_in - typed_out < MOST_TYPED;) {
+  for (int one = 0; is_listening && one >= 0 && typed_in - typed_out < MOST_TYPED;) {
     one = in(lines[0].at + lines[0].status) != 0xFF && is(&lines[0], lines[0].has) ? in(lines[0].at) : key();
-    if (one >= 0) typed[typed_in++ % MOST_TYPED] = one;
+    typed[typed_in % MOST_TYPED] = one;
+    typed_in += one >= 0;
   }
-  size after = typed_in;
-  unlock(&typed_lock);
-  if (after != before) wake_all();
+  if (typed_in != before) wake_all();
 }
 
 /* Begins an input that is typed, and that is shown as it is read. */
@@ -133,27 +133,19 @@ void begin_typed(int it_is_echoed) {
 }
 
 /* Moves what was typed to a buffer, up to a control-D: an end of the input, which stays. */
-static size take_out(byte *buffer, size room) {
-  size count = 0;
-  lock(&typed_lock);
-  for (; count < room && !is_over && typed_out != typed_in; typed_out++) {
-    byte one = typed[typed_out % MOST_TYPED];
-    is_over = one == END_OF_INPUT;
-    if (!is_over) buffer[count++] = one == '\r' ? '\n' : one;
-  }
-  unlock(&typed_lock);
-  return count;
-}
-
 static long read_typed(byte *buffer, size room) {
   size count = 0;
-  if (!is_listening) listen();
-  is_listening = 1;
-  for (size had_come = wakes_so_far();; had_come = wakes_so_far()) {
-    take_typed();
-    count = take_out(buffer, room);
-    if (count || is_over || !room) break;
-    wait(had_come);
+  for (size had_come = wakes; room > 0; had_come = wakes) {
+    lock(&typed_lock);
+    for (; count < room && !is_over && typed_out != typed_in; typed_out++) {
+      byte one = typed[typed_out % MOST_TYPED];
+      is_over = one == END_OF_INPUT;
+      if (!is_over) buffer[count++] = one == '\r' ? '\n' : one;
+    }
+    unlock(&typed_lock);
+    if (count > 0 || is_over) break;
+    waits(had_come);
+    leave();
   }
   if (is_echoed) write(1, buffer, count);
   return count;
@@ -162,7 +154,7 @@ static long read_typed(byte *buffer, size room) {
 long read(long fd, byte *buffer, size room) {
   size left = input.end - input.start, count = left < room ? left : room;
   if ((int)fd != 0) return fails(WRONG_FILE);
-  if (!input.end && is_typed) return read_typed(buffer, room);
+  if (!input.end && is_listening) return read_typed(buffer, room);
   memcpy(buffer, (const byte *)input.start, count);
   input.start += count;
   return count;
@@ -172,13 +164,14 @@ long lseek(long fd, long offset, long whence) { return fails(NO_SEEK); }
 /* ---- the end of a run. The first processor that ends it tells why, and any other stands still; it waits for a moment for what another writes */
 
 static _Noreturn void stand_still(void) {
-  me()->runs = 0;
-  for (;;) halt();
+  interrupts_off();
+  for (;;) idle();
 }
 
 /* From here on no other processor writes. */
 static void begin_end(int status) {
   enum { MOMENT = 100000 };
+  static struct processor *ender; /* the one that ends the run */
   struct processor *nobody = 0;
   interrupts_off();
   if (__atomic_compare_exchange_n(&ender, &nobody, me(), 0, __ATOMIC_SEQ_CST, __ATOMIC_SEQ_CST))
@@ -189,9 +182,10 @@ static void begin_end(int status) {
     power_off(status); /* a fault in what tells of one */
 }
 
-/* QEMU may go on for a moment behind its end, so the status is told later: where nothing ended the machine. */
-static _Noreturn void end_run(int status) {
+/* Ends the run, with a word where there is one. QEMU may go on for a moment behind its end, so the status is told later: where nothing ended the machine. */
+static _Noreturn void end_run(const char *why, int status) {
   enum { MOMENT = 300000 };
+  say(why);
   power_off(status);
   for (int i = 0; i < MOMENT; i++) microsecond();
   say("status ");
@@ -203,20 +197,18 @@ static _Noreturn void end_run(int status) {
 _Noreturn void _exit(long status) {
   if (is_shell && (int)status < NO_ROOM) leave_command(status);
   begin_end(status);
-  end_run(status);
+  end_run("", status);
 }
-
 _Noreturn void ends(const char *why, enum status status) {
   begin_end(status);
   say(why);
-  say("\n");
-  end_run(status);
+  end_run("\n", status);
 }
 _Noreturn void abort(void) { ends("host: abort", ABORTED); }
 
 /* Tells of an exception, and where it was. */
-_Noreturn void tell_trap(const char *what, size number, size error, size at, size stack, size address) {
-  const size told[] = {number, error, at, stack, address};
+_Noreturn void tell_trap(const char *what, size number, size error, const struct frame *it, size address) {
+  const size told[] = {number, error, it->at, it->stack, address};
   static const char *const told_as[] = {", number ", ", error ", ", at ", ", stack ", ", address "};
   begin_end(TRAPPED);
   say("host: ");
@@ -225,8 +217,7 @@ _Noreturn void tell_trap(const char *what, size number, size error, size at, siz
     say(told_as[i]);
     say_number(told[i], i == 0 ? 10 : 16);
   }
-  say("\n");
-  end_run(TRAPPED);
+  end_run("\n", TRAPPED);
 }
 
 /* ---- what else the program asks */

@@ -1,147 +1,122 @@
 /* Processors, threads, and their waits. A thread belongs to one processor from its first turn to its last. Each processor's own loop gives it to those of
-   its threads that can go on, by turns. A thread gives it back where it yields, waits or ends, and a timer takes it where a slice of time ends. */
+   its threads that can go on, by turns. A thread gives it back by a trap where it yields, waits or ends; a timer takes it where a slice of time ends. */
 #include "host.h"
 
 #ifndef SLICE
 #define SLICE 2000000 /* nanoseconds, about */
 #endif
-enum { MOMENT = 20000 };
 
 long main(void); /* the program's own */
 
 struct processor processors[MOST_PROCESSORS];
-unsigned numbers[MOST_PROCESSORS], processor_count;
-int is_lent = 1;
+unsigned processor_count;
+_Atomic size wakes;
 static struct thread threads[MOST_THREADS]; /* the first is the program's main */
-static unsigned thread_count = 1, halted; /* processors that halt with nothing to do */
-static int threads_lock, others_began;
-static size wakes; /* that have come, of all words and ends */
-
-static int state_of(const struct thread *it) { return __atomic_load_n(&it->state, __ATOMIC_SEQ_CST); }
-static void set_state(struct thread *it, enum state state) { __atomic_store_n(&it->state, state, __ATOMIC_SEQ_CST); }
-static struct processor *processor_of(const struct thread *it) { return __atomic_load_n(&it->at, __ATOMIC_SEQ_CST); }
-size wakes_so_far(void) { return __atomic_load_n(&wakes, __ATOMIC_SEQ_CST); }
-int is_alone(void) { return !others_began; }
+static int threads_lock;
+static _Atomic unsigned up_count = 1; /* processors that have begun */
 
 /* Ends each wait, and the halt of each other processor, or its next halt. */
 int wake_all(void) {
-  __atomic_add_fetch(&wakes, 1, __ATOMIC_SEQ_CST);
-  if (!is_alone()) end_halts();
+  wakes++;
+  if (up_count > 1) end_halts();
   return 0;
 }
 
-/* ---- a processor's own loop */
+/* ---- a processor's own loop. Each trap begins it anew, on an empty stack */
 
-static int can_go_on(const struct thread *it, int state) { return state == READY || (state == WAITS && it->wakes != wakes_so_far()); }
+static int can_go_on(const struct thread *it, int state) { return state == READY || (state == WAITS && it->wakes != wakes); }
 
 /* The next thread of this processor that can go on, behind the one that ran last, or 0. Its state is looked at before `at` and again after: while another
    processor gets a record that was this one's, `at` is old until it is READY, and while this one gets another's, the state is old until `at` is written. */
-static struct thread *next_of(const struct processor *own, const struct thread *last) {
-  unsigned count = __atomic_load_n(&thread_count, __ATOMIC_SEQ_CST), behind = last ? last - threads + 1 : 0;
-  for (unsigned i = 0; i < count; i++) {
-    struct thread *it = &threads[(behind + i) % count];
-    int state = state_of(it);
-    if (can_go_on(it, state) && processor_of(it) == own && state_of(it) == state) return it;
+static struct thread *next_of(const struct processor *own) {
+  unsigned behind = own->last ? own->last - threads + 1 : 0;
+  for (unsigned i = 0; i < stack_count; i++) {
+    struct thread *it = &threads[(behind + i) % stack_count];
+    int state = it->state;
+    if (can_go_on(it, state) && it->at == own && it->state == state) return it;
   }
   return 0;
 }
 
-static int some_can_go_on(void) {
+/* Whether each processor halts, and no thread can go on. */
+static int is_stuck(void) {
+  for (unsigned i = 0; i < processor_count; i++)
+    if (!processors[i].is_halted) return 0;
   for (struct thread *it = threads; it < threads + MOST_THREADS; it++)
-    if (state_of(it) == ENDS || can_go_on(it, state_of(it))) return 1;
-  return 0;
+    if (it->state == ENDS || can_go_on(it, it->state)) return 0;
+  return 1;
 }
 
-/* Halts until an interrupt. The last processor that halts, with no thread that can go on, tells it: nobody is left who could wake one, unless somebody types.
-   Where a wake came while it looked, another went on, and will look when it halts. */
-static void halt_or_end(void) {
-  size before = wakes_so_far();
-  int is_last = is_alone() || __atomic_add_fetch(&halted, 1, __ATOMIC_SEQ_CST) == processor_count;
-  if (is_last && !is_listening && !some_can_go_on() && wakes_so_far() == before) ends("host: every thread waits", ALL_WAIT);
-  halt();
-  if (!is_alone()) __atomic_sub_fetch(&halted, 1, __ATOMIC_SEQ_CST);
+/* Halts until an interrupt, also one that came since the loop began. It does not return here: the loop begins anew. */
+static _Noreturn void halt(struct processor *own) {
+  if (is_listening && own == processors) listen();
+  own->tables.frame_end = &own->halted + 1;
+  interrupts_on();
+  for (;;) idle();
 }
 
 /* Only here, where nothing runs on its stack any more, is a thread told to have ended. */
 static void end(struct thread *it) {
   lock(&threads_lock);
-  processor_of(it)->threads--;
-  set_state(it, it->is_detached ? RESTS : ENDED);
+  it->at->threads--;
+  it->state = it->is_detached ? RESTS : ENDED;
   unlock(&threads_lock);
   wake_all();
 }
 
-/* Lets others have the processor. One of one's own goes on at once. One that is lent is given back for a moment, since the processor that is waited for may
-   have none. */
-static void halt_a_moment(struct processor *own) {
-  if (!is_lent || is_alone()) return pause();
-  set_timer(MOMENT);
-  halt();
-  own->is_timed = 0;
+/* Runs a thread until a trap. */
+static _Noreturn void run(struct processor *own, struct thread *it) {
+  it->state = READY;
+  own->runs = own->last = it;
+  own->tables.frame_end = &it->frame + 1;
+  set_timer(SLICE);
+  resume(&it->frame);
 }
 
-/* Runs a thread until it gives the processor back, or its slice ends. */
-static void run(struct processor *own, struct thread *it) {
-  set_state(it, READY);
-  own->runs = it;
-  own->is_ticked = 0;
-  if (!own->is_timed) set_timer(SLICE);
-  own->is_timed = 1;
-  change_stacks(&own->stack, &it->stack);
-  own->runs = 0;
-}
-
-/* Where each of its threads yielded, one after the other, a processor waits for others: it lets them have it for a moment. */
-_Noreturn void work(struct processor *own) {
-  struct thread *last = 0;
-  unsigned yields = 0;
-  for (;;) {
-    if (own == processors) take_typed();
-    struct thread *next = next_of(own, last);
-    if (!next) {
-      halt_or_end();
-      continue;
-    }
-    run(own, next);
-    last = next;
-    if (state_of(next) == ENDS) end(next);
-    yields = state_of(next) == READY && !own->is_ticked ? yields + 1 : 0;
-    if (yields < own->threads) continue;
-    halt_a_moment(own);
-    yields = 0;
-  }
-}
-
-/* What a thread does on its processor: it gives that back until its next turn. */
-static int give_back(enum state state) {
-  interrupts_off();
+/* What each trap leads to, and the begin of a processor: the next thread runs, or the processor halts. An interrupt that was to end a halt leaves a thread its
+   processor. Where each of its threads yielded, one after the other, it waits for others: it halts for a moment, since a host of machines may give them none
+   meanwhile. The last processor that halts, with no thread that can go on, tells it: nobody is left who could wake one, unless somebody types. Where a wake
+   came while it looked, another went on, and will look when it halts. */
+_Noreturn void work(enum reason why) {
+  enum { MOMENT = 20000 };
   struct processor *own = me();
   struct thread *it = own->runs;
-  set_state(it, state);
-  change_stacks(&it->stack, &own->stack);
-  interrupts_on();
+  if (it && why == WOKEN) resume(&it->frame);
+  own->runs = 0;
+  own->is_halted = 0;
+  own->yields = why == GAVE_BACK && it->state == READY ? own->yields + 1 : 0;
+  if (it && it->state == ENDS) end(it);
+  if (own == processors) take_typed();
+  int have_all_yielded = own->yields > 0 && own->yields >= own->threads;
+  if (have_all_yielded && up_count > 1) {
+    set_timer(MOMENT);
+    halt(own);
+  }
+  if (have_all_yielded) pause();
+  struct thread *next = next_of(own);
+  if (next) run(own, next);
+  size before = wakes;
+  own->is_halted = 1;
+  if (!is_listening && is_stuck() && wakes == before) ends("host: every thread waits", ALL_WAIT);
+  halt(own);
+}
+
+/* What a thread does on its processor: it gives that back until its next turn. An interrupt that comes first does so, too. */
+int give_back(enum state state) {
+  me()->runs->state = state;
+  leave();
   return 0;
 }
 
-/* What an interrupt does. The end of a slice takes the processor from its thread; any other interrupt was to end a halt. */
-void interrupted(int is_tick) {
-  struct processor *own = me();
-  if (!is_tick) return;
-  own->is_timed = 0;
-  own->is_ticked = 1;
-  if (own->runs) change_stacks(&own->runs->stack, &own->stack);
-}
-
-/* Waits for the next wake behind those that had come. Who looks at a word looks at their number first: a wake that comes in between ends the wait. */
-int wait(size had_come) {
+/* A thread that leaves then waits for the next wake behind those that had come. Who looks at a word looks at their number first: a wake that comes in between
+   ends the wait. */
+void waits(size had_come) {
   me()->runs->wakes = had_come;
-  return give_back(WAITS);
+  me()->runs->state = WAITS;
 }
 
 static void begin(void) {
   struct thread *own = me()->runs;
-  for (size i = 0; i < GUARD_BYTES; i += PAGE) forget_page(own->guard + i); /* this processor may have seen it there */
-  interrupts_on();
   own->value = own->start(own->value);
   give_back(ENDS);
 }
@@ -149,78 +124,50 @@ static void begin(void) {
 /* ---- processors: the first one's record is the first, and each other has its own from the time that it is named */
 
 void has_processor(unsigned number) {
-  if (processor_count == MOST_PROCESSORS || (processor_count > 0 && number == numbers[0])) return;
-  struct processor *it = &processors[processor_count];
-  it->stack_end = it->loop_stack + sizeof it->loop_stack;
-  it->trap_stack_end = it->trap_stack + sizeof it->trap_stack;
+  if (processor_count == MOST_PROCESSORS || (processor_count > 0 && number == processors[0].number)) return;
+  struct processor *it = &processors[processor_count++];
+  it->stack_end = it->stack + sizeof it->stack;
   it->self = it;
-  it->number = numbers[processor_count++] = number;
+  it->number = number;
+  it->is_halted = 1;
 }
 
 /* Where start.S goes with another processor and its record. */
 _Noreturn void other_processor(struct processor *it) {
   set_tables(it);
-  __atomic_store_n(&it->is_up, 1, __ATOMIC_SEQ_CST);
-  work(it);
-}
-
-static unsigned up_count(void) {
-  unsigned count = 1;
-  for (unsigned i = 1; i < processor_count; i++) count += __atomic_load_n(&processors[i].is_up, __ATOMIC_SEQ_CST);
-  return count;
+  up_count++;
+  work(WOKEN);
 }
 
 /* Makes the others begin, the first time that it is called, and asks them until all have come, for some seconds. Until then the program runs on one. */
 static void begin_others(void) {
   enum { ROUNDS = 200, ROUND = 20000 };
-  if (others_began || processor_count == 1) return;
-  others_began = 1;
-  for (int round = 0; round < ROUNDS && up_count() < processor_count; round++) {
+  for (int round = 0; round < ROUNDS && up_count < processor_count; round++) {
     call_others(round == 0);
-    for (int wait = 0; wait < ROUND && up_count() < processor_count; wait++) microsecond();
+    for (int i = 0; i < ROUND && up_count < processor_count; i++) microsecond();
   }
-  if (up_count() == processor_count) return;
-  say("host: processors that came: ");
-  say_number(up_count(), 10);
-  say(" of ");
-  say_number(processor_count, 10);
-  ends("", NO_PROCESSOR);
+  if (up_count < processor_count) ends("host: a processor did not start", NO_PROCESSOR);
 }
 
 /* ---- threads */
 
-/* Lays down on a thread's stack what change_stacks takes from one: registers, and where to go on. */
+/* Gives a record to a processor. Its state is written last. */
 static void starts(struct thread *it, struct processor *at, void *(*start)(void *), void *value) {
-  const size left[KEPT_WORDS] = {[KEPT_RETURN] = (size)begin};
-  it->stack = (size)(it->stack_end - sizeof left);
-  memcpy((void *)it->stack, left, sizeof left);
+  it->frame = (struct frame){FIRST_FRAME, .at = (size)begin, .stack = stacks + (it - threads + 1) * STACK_BYTES - PUSHED_BY_CALL};
   it->start = start;
   it->value = value;
   it->error_number = it->is_detached = 0;
-  __atomic_store_n(&it->at, at, __ATOMIC_SEQ_CST);
+  it->at = at;
   at->threads++;
-  set_state(it, READY);
+  it->state = READY;
 }
 
-static void *run_main(void *none) {
-  if (is_shell) shell();
-  _exit(main());
-}
+void *run_program(void *none) { _exit(main()); }
 
-/* Makes the program the first thread, for the first processor to begin with. */
+/* Makes the program, or the shell, the first thread, for the first processor to begin with. */
 void has_program(void) {
-  if (!has_stack(&threads[0])) ends("host: too little memory", NO_ROOM);
-  starts(&threads[0], processors, run_main, 0);
-}
-
-/* Ends the thread that runs, from wherever it is. */
-void end_command(void) { give_back(ENDS); }
-
-/* Whether a page is the guard of a stack. */
-int is_guard(size address) {
-  for (struct thread *it = threads; it < threads + MOST_THREADS; it++)
-    if (it->guard && address - (size)it->guard < GUARD_BYTES) return 1;
-  return 0;
+  take_first_word();
+  starts(&threads[0], processors, is_shell ? shell : run_program, 0);
 }
 
 /* The processor with the fewest threads, and of those the first. */
@@ -231,41 +178,30 @@ static struct processor *least_busy(void) {
   return best;
 }
 
-/* A record at rest that has a stack, or 0. */
-static struct thread *at_rest(void) {
-  for (struct thread *it = threads; it < threads + MOST_THREADS; it++) {
-    if (state_of(it) != RESTS) continue;
-    if (!has_stack(it)) return 0;
-    unsigned number = it - threads;
-    if (number >= thread_count) __atomic_store_n(&thread_count, number + 1, __ATOMIC_SEQ_CST);
-    return it;
-  }
-  return 0;
-}
-
 int pthread_attr_init(size *attributes) { return *attributes = 0; }
 int pthread_attr_destroy(size *attributes) { return 0; }
 int pthread_attr_setstacksize(size *attributes, size bytes) { return bytes <= STACK_BYTES ? 0 : INVALID; } /* each stack has so many */
 int pthread_attr_setguardsize(size *attributes, size bytes) { return bytes <= GUARD_BYTES ? 0 : INVALID; } /* of them a guard */
 
 int pthread_create(size *thread, const size *attributes, void *(*start)(void *), void *value) {
+  unsigned i = 0;
   lock(&threads_lock);
   begin_others();
-  struct thread *it = at_rest();
-  if (it) {
-    *thread = it - threads + 1;
-    starts(it, least_busy(), start, value);
-  }
+  while (i < stack_count && threads[i].state != RESTS) i++;
+  if (i < stack_count) starts(&threads[i], least_busy(), start, value);
   unlock(&threads_lock);
-  if (it) wake_all();
-  return it ? 0 : TRY_AGAIN;
+  *thread = i + 1;
+  return i < stack_count ? wake_all() : TRY_AGAIN;
 }
 
 int pthread_join(size thread, void **value) {
   struct thread *it = &threads[thread - 1];
-  for (size had_come = wakes_so_far(); state_of(it) != ENDED; had_come = wakes_so_far()) wait(had_come);
+  for (size had_come = wakes; it->state != ENDED; had_come = wakes) {
+    waits(had_come);
+    leave();
+  }
   if (value) *value = it->value;
-  set_state(it, RESTS);
+  it->state = RESTS;
   return 0;
 }
 
@@ -273,7 +209,7 @@ int pthread_detach(size thread) {
   struct thread *it = &threads[thread - 1];
   lock(&threads_lock);
   it->is_detached = 1;
-  if (state_of(it) == ENDED) set_state(it, RESTS);
+  if (it->state == ENDED) it->state = RESTS;
   unlock(&threads_lock);
   return 0;
 }
@@ -292,18 +228,25 @@ long fails(int error) {
   return -1;
 }
 
-/* Linux's futex: a wait that ends at once where the word is not the number, and that may end at any time, and a wake of all that wait. */
-long syscall(long number, unsigned *word, long operation, long value) {
+/* Linux's futex: a wait that ends at once where the word is not the number, and that may end at any time, and a wake of all that wait. A thread that has to
+   wait does so when it gives its processor back. */
+static long futex(long number, unsigned *word, long operation, long value) {
   enum { FUTEX = 202, WAIT = 0x80, WAKE = 0x81 };
   if (number != FUTEX || ((int)operation != WAIT && (int)operation != WAKE)) return fails(NO_CALL);
   if ((int)operation == WAKE) return wake_all();
-  size had_come = wakes_so_far();
+  size had_come = wakes;
   if (__atomic_load_n(word, __ATOMIC_SEQ_CST) != (unsigned)value) return fails(TRY_AGAIN);
-  return wait(had_come);
+  waits(had_come);
+  return 0;
+}
+long syscall(long number, unsigned *word, long operation, long value) {
+  long answer = futex(number, word, operation, value);
+  if (me()->runs->state == WAITS) leave();
+  return answer;
 }
 
-/* The same by the instruction syscall, which answers as Linux does: an error is its number, negative. */
+/* The same by the instruction syscall, a trap, which answers as Linux does: an error is its number, negative. */
 long call_system(long number, unsigned *word, long operation, long value) {
-  long answer = syscall(number, word, operation, value);
+  long answer = futex(number, word, operation, value);
   return answer < 0 ? -(long)rattle_errno() : answer;
 }

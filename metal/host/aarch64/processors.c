@@ -1,9 +1,7 @@
-/* Arm's processors: their tables, exceptions, interrupts, timers, and how the others begin, by the calls of PSCI. */
+/* Arm's processors: their tables, traps, timers, and how the others begin, by the calls of PSCI. */
 #include "host.h"
 
 extern byte vectors[], others_start[];
-void begin_by_tree(unsigned number, const byte *tree, struct line line, size configuration, size ports);
-size *first_table(void);
 
 #define KEPT_BY_NO_CALL "x4", "x5", "x6", "x7", "x8", "x9", "x10", "x11", "x12", "x13", "x14", "x15", "x16", "x17", "memory"
 static long psci(long function, long a, long b, long c) {
@@ -34,26 +32,34 @@ static size ticks_of(size nanoseconds) {
 
 void set_timer(size nanoseconds) { __asm__ volatile("msr cntv_tval_el0, %0; msr cntv_ctl_el0, %1; isb" : : "r"(ticks_of(nanoseconds)), "r"((size)1)); }
 
-/* Halts until an interrupt, also one that came since interrupts went off. */
-void halt(void) {
-  if (is_listening && me() == processors) *at(lines[0].at + LINE_MASK) = LINE_HAS;
-  __asm__ volatile("dsb sy; wfi; msr daifclr, #2; isb; msr daifset, #2" : : : "memory");
+/* An interrupt of the first line ends a halt of the first processor. It is on in that halt alone, since it stays until its byte is taken. */
+void listen(void) {
+  *gic(0x6000 + 8 * LINE) = processors[0].number;
+  *gic(0x84) = *gic(0x104) = 1 << LINE % 32;
+  *at(lines[0].at + LINE_MASK) = LINE_HAS;
 }
 
-/* What start.S calls in an interrupt. The line's is on in a halt alone, since it stays until its byte is taken. */
-void took_interrupt(void) {
+/* Says which interrupt it is, and that it is taken. */
+static enum reason took_interrupt(void) {
   size number;
   __asm__ volatile("mrs %0, S3_0_C12_C12_0; dsb sy" : "=r"(number) : : "memory");
   if (number == TICK) __asm__ volatile("msr cntv_ctl_el0, %0; isb" : : "r"((size)0));
   if (number == LINE) *at(lines[0].at + LINE_MASK) = 0;
   __asm__ volatile("msr S3_0_C12_C12_1, %0; isb" : : "r"(number) : "memory");
-  interrupted(number == TICK);
+  return number == TICK ? TICKED : WOKEN;
 }
 
-/* From now on an interrupt of the first line ends a halt of the first processor. */
-void listen(void) {
-  *gic(0x6000 + 8 * LINE) = numbers[0];
-  *gic(0x84) = *gic(0x104) = 1 << LINE % 32;
+/* What start.S calls in each trap, with the registers that it kept. An interrupt says nothing in the register of exceptions, which is 0 but for them. */
+_Noreturn void trapped(struct frame *it) {
+  enum { NONE = 0, CALL = 0x15, CODE_FAULT = 0x21, DATA_FAULT = 0x25, BREAK = 0x3C };
+  size what, address;
+  __asm__ volatile("mrs %0, esr_el1; mrs %1, far_el1; msr esr_el1, xzr" : "=r"(what), "=r"(address));
+  size number = what >> 26 & 63;
+  if (!what) work(took_interrupt());
+  if (number == CALL) work(GAVE_BACK);
+  const char *name = number == NONE || number == BREAK ? "an instruction that is none" : "an exception";
+  if (number == CODE_FAULT || number == DATA_FAULT) name = number == DATA_FAULT && is_guard(address) ? "a full stack" : "a page fault";
+  tell_trap(name, number, what, it, address);
 }
 
 /* A processor takes interrupts of the first kind: from others, and of its timer. */
@@ -74,11 +80,9 @@ static void take_interrupts(void) {
 void set_tables(struct processor *it) {
   enum { ON = 1 | 1 << 2 | 1 << 12 }; /* the table of pages, caches of data and of instructions */
   const size kinds = 0xFF | 0x00 << 8, space = 25 | (size)1 << 8 | (size)1 << 10 | (size)3 << 12 | (size)1 << 23 | (size)1 << 32;
-  static size *table;
   size control;
-  __asm__ volatile("msr tpidr_el1, %0; msr vbar_el1, %1" : : "r"(it), "r"(vectors));
-  if (!table) table = first_table();
-  __asm__ volatile("msr mair_el1, %0; msr tcr_el1, %1; msr ttbr0_el1, %2" : : "r"(kinds), "r"(space), "r"(table) : "memory");
+  __asm__ volatile("msr tpidr_el1, %0; msr vbar_el1, %1; msr esr_el1, xzr" : : "r"(it), "r"(vectors));
+  __asm__ volatile("msr mair_el1, %0; msr tcr_el1, %1; msr ttbr0_el1, %2" : : "r"(kinds), "r"(space), "r"(root) : "memory");
   __asm__ volatile("dsb sy; isb; tlbi vmalle1; dsb sy; isb" : : : "memory");
   __asm__ volatile("mrs %0, sctlr_el1" : "=r"(control));
   __asm__ volatile("msr sctlr_el1, %0; isb" : : "r"(control | ON) : "memory");
@@ -86,16 +90,6 @@ void set_tables(struct processor *it) {
 }
 
 void forget_pages(void) { __asm__ volatile("dsb ishst; tlbi vmalle1is; dsb ish; isb" : : : "memory"); }
-void forget_page(const byte *at) { __asm__ volatile("dsb ishst; tlbi vaae1is, %0; dsb ish; isb" : : "r"((size)at >> 12) : "memory"); }
-
-/* What start.S calls in an exception. */
-_Noreturn void trapped(size what, size address, size at, size stack) {
-  enum { NONE = 0, CODE_FAULT = 0x21, DATA_FAULT = 0x25, BREAK = 0x3C };
-  size number = what >> 26 & 63;
-  const char *name = number == NONE || number == BREAK ? "an instruction that is none" : "an exception";
-  if (number == CODE_FAULT || number == DATA_FAULT) name = number == DATA_FAULT && is_guard(address) ? "a full stack" : "a page fault";
-  tell_trap(name, number, what, at, stack, address);
-}
 
 /* ---- how processors begin, and how the run ends */
 
@@ -105,16 +99,14 @@ void microsecond(void) {
 
 void call_others(int is_first) {
   const long CPU_ON = 0xC4000003;
-  for (unsigned i = 1; is_first && i < processor_count; i++) psci(CPU_ON, numbers[i], (long)others_start, (long)&processors[i]);
+  for (unsigned i = 1; is_first && i < processor_count; i++) psci(CPU_ON, processors[i].number, (long)others_start, (long)&processors[i]);
 }
 
 void first_processor(const byte *tree) {
-  has_processor(own_name());
-  lines[0] = lines[1] = lines[2] = (struct line){0x09000000, 0x18, 0x30, 0x20, 0x10};
-  *at(lines[0].at + 0x30) = 0x301; /* it sends and takes */
-  set_tables(processors);
+  const struct line line = {0x09000000, 0x18, 0x30, 0x20, 0x10};
+  *at(line.at + 0x30) = 0x301; /* it sends and takes */
+  begin_by_tree(own_name(), tree, &line, 0x3F000000, 0x3EFF0000);
   if (!ticks_of(1000000000)) ends("host: there is no timer", NO_PROCESSOR);
-  begin_by_tree(own_name(), tree, lines[0], 0x3F000000, 0x3EFF0000);
 }
 
 /* QEMU's semihosting ends the machine with a status. */

@@ -1,7 +1,7 @@
 /* What the firmware left on a machine that a device tree describes, QEMU's `virt`: memory, words, the plan and processors; and the first page table. */
 #include "host.h"
 
-static size root[512] __attribute__((aligned(PAGE)));
+size root[512] __attribute__((aligned(PAGE)));
 
 /* Numbers of the tree have their high byte first, and one cell of four bytes or two. */
 static unsigned number(const byte *at) { return (unsigned)at[0] << 24 | at[1] << 16 | at[2] << 8 | at[3]; }
@@ -9,30 +9,27 @@ static size cells(const byte *at, unsigned bytes) { return bytes == 8 ? (size)nu
 
 /* A property of a node. Addresses and lengths of memory have two cells, as on QEMU's machine. */
 static void has_property(const char *node, const char *name, const byte *value, unsigned bytes) {
-  static size start;
   if (begins_with(node, "memory@") && is_same(name, "reg"))
     for (unsigned i = 0; i + 16 <= bytes; i += 16) has_memory(cells(value + i, 8), cells(value + i, 8) + cells(value + i + 8, 8));
   if (begins_with(node, "cpu@") && is_same(name, "reg")) has_processor(cells(value, bytes));
   if (!is_same(node, "chosen")) return;
   if (is_same(name, "bootargs")) has_words((const char *)value);
-  if (is_same(name, "linux,initrd-start")) start = cells(value, bytes);
+  if (is_same(name, "linux,initrd-start")) input.start = cells(value, bytes);
   if (is_same(name, "linux,initrd-end")) input.end = cells(value, bytes);
-  if (start && input.end) has_input(start, input.end);
 }
 
+/* The properties of a node stand behind its name, before any node in it. Nobody reads the tree again, so its memory is free. */
 static void read_tree(const byte *tree) {
-  enum { BEGIN = 1, END, PROPERTY, NOTHING, DEEPEST = 16, WHOLE = 4, STRUCTURE = 8, NAMES = 12 };
-  const char *nodes[DEEPEST], *names = (const char *)tree + number(tree + NAMES);
-  unsigned depth = 0, token = NOTHING;
-  uses((size)tree, (size)tree + number(tree + WHOLE));
-  for (const byte *at = tree + number(tree + STRUCTURE); token <= NOTHING && depth < DEEPEST; at = (const byte *)(((size)at + 3) & ~(size)3)) {
+  enum { BEGIN = 1, END, PROPERTY, NOTHING, STRUCTURE = 8, NAMES = 12 };
+  const char *node = "", *names = (const char *)tree + number(tree + NAMES);
+  unsigned token = NOTHING;
+  for (const byte *at = tree + number(tree + STRUCTURE); token <= NOTHING; at = (const byte *)(((size)at + 3) & ~(size)3)) {
     token = number(at);
     at += 4;
     if (token == BEGIN)
-      for (nodes[depth++] = (const char *)at; *at++;);
-    if (token == END) depth--;
+      for (node = (const char *)at; *at++;);
     if (token != PROPERTY) continue;
-    if (depth) has_property(nodes[depth - 1], names + number(at + 4), at + 8, number(at));
+    has_property(node, names + number(at + 4), at + 8, number(at));
     at += 8 + number(at);
   }
 }
@@ -47,23 +44,22 @@ static void set_second_line(size configuration, size ports) {
   lines[2] = line_16550(ports + AT);
 }
 
-/* Sets the page tables, each address at itself; returns the first. */
-size *first_table(void) {
+void begin_by_tree(unsigned number, const byte *tree, const struct line *line, size configuration, size ports) {
+  has_processor(number);
+  lines[0] = lines[1] = lines[2] = *line;
   for (size i = 0; i < 4; i++) root[i] = table_entry((size)&directories[i * 512]);
   set_pages();
-  return root;
-}
-
-/* The first processor begins: its number, the tree, its first line, and where the bus of devices has its configuration and its ports. */
-void begin_by_tree(unsigned number, const byte *tree, struct line line, size configuration, size ports) {
-  lines[0] = lines[1] = lines[2] = line;
+  set_tables(processors);
   set_second_line(configuration, ports);
   has_words("tower ");
   read_tree(tree);
-  take_first_word();
   set_memory();
   has_program();
 }
+
+/* There is no screen and no keyboard. */
+void show(long fd, byte one) {}
+int key(void) { return -1; }
 
 /* The program asks whether the processor has what x86-64-v2 has; here the compiler knew the processor. */
 const void *__x86_get_cpuid_feature_leaf(unsigned leaf) {

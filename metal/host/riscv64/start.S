@@ -1,17 +1,31 @@
-/* From what SBI leaves to C, on the first hart and on each other; exceptions and interrupts; the change from one stack to another. Nothing proves this file.
+/* From what SBI leaves to C, on the first hart and on each other; and traps. Nothing proves this file.
    tp holds the record of the hart that runs: no code of the program or of the host's C changes it. */
-        .set TRAP_STACK_END, 8          /* of a record, as host.h has it */
-        .set KEPT, 24
+        .set FRAME_END, 16              /* of a record, as host.h has it */
+        .set NUMBER, 40
+        .set PROCESSOR_BYTES, 8192
+        .set FRAME_BYTES, 528           /* as machine.h has it: 29 registers, 32 floats, and four more */
+        .set CONTROL, 8*61
+        .set AT, 8*62
+        .set FLAGS, 8*63
+        .set STACK, 8*64
 
         .section .boot, "ax"
         .global start, others_start
 start:                                  /* a0: this hart; a1: the device tree */
         la      tp, processors
+        lw      t0, processor_count
+        bnez    t0, 1f
         la      sp, boot_stack_end
         call    first_processor
         ld      sp, (tp)
-        mv      a0, tp
+        li      a0, 0
         call    work
+1:      lw      t0, NUMBER(tp)          /* OpenSBI 1.1 may send another hart here: one that looks for its start before all of it is written */
+        mv      a1, tp
+        beq     t0, a0, others_start
+        li      t0, PROCESSOR_BYTES
+        add     tp, tp, t0
+        j       1b
 
 others_start:                           /* a0: this hart; a1: its record */
         mv      tp, a1
@@ -19,74 +33,52 @@ others_start:                           /* a0: this hart; a1: its record */
         mv      a0, tp
         call    other_processor
 
+/* each WORD, FLOAT: does this with each register but tp and sp. */
+        .macro  each word, float
+        .set    n, 0
+        .irp    it, ra, gp, t0, t1, t2, t3, t4, t5, t6, s0, s1, s2, s3, s4, s5, s6, s7, s8, s9, s10, s11, a0, a1, a2, a3, a4, a5, a6, a7
+        \word   \it, 8*n(sp)
+        .set    n, n + 1
+        .endr
+        .irp    it, 0, 1, 2, 3, 4, 5, 6, 7, 8, 9, 10, 11, 12, 13, 14, 15, 16, 17, 18, 19, 20, 21, 22, 23, 24, 25, 26, 27, 28, 29, 30, 31
+        \float  f\it, 8*n(sp)
+        .set    n, n + 1
+        .endr
+        .endm
+
+/* A trap keeps registers in a record, and tells C on the hart's own stack, from its end. */
         .text
-        .global to_trapped
+        .global trap, resume
         .balign 4
-to_trapped:
-        sd      t0, KEPT(tp)
-        csrr    t0, scause
-        bltz    t0, to_interrupted
-        csrr    a0, scause              /* an exception: what, the address, where, and the stack there */
-        csrr    a1, stval
-        csrr    a2, sepc
-        mv      a3, sp
-        ld      sp, TRAP_STACK_END(tp)
+trap:   csrw    sscratch, sp
+        ld      sp, FRAME_END(tp)
+        addi    sp, sp, -FRAME_BYTES
+        each    sd, fsd
+        csrr    t0, fcsr
+        csrr    t1, sepc
+        csrr    t2, sstatus
+        csrr    t3, sscratch
+        sd      t0, CONTROL(sp)
+        sd      t1, AT(sp)
+        sd      t2, FLAGS(sp)
+        sd      t3, STACK(sp)
+        mv      a0, sp
+        csrr    a1, scause
+        csrr    a2, stval
+        ld      sp, (tp)
         call    trapped
 
-/* each_kept WORD, FLOAT: does this with each register that C does not keep over a call. */
-        .macro  each_kept word, float
-        .set    n, 0
-        .irp    it, ra, t0, t1, t2, t3, t4, t5, t6, a0, a1, a2, a3, a4, a5, a6, a7
-        \word   \it, 8*n(sp)
-        .set    n, n + 1
-        .endr
-        .irp    it, ft0, ft1, ft2, ft3, ft4, ft5, ft6, ft7, ft8, ft9, ft10, ft11, fa0, fa1, fa2, fa3, fa4, fa5, fa6, fa7
-        \float  \it, 8*n(sp)
-        .set    n, n + 1
-        .endr
-        .endm
-to_interrupted:
-        ld      t0, KEPT(tp)
-        addi    sp, sp, -320
-        each_kept sd, fsd
-        .irp    it, fcsr, sepc, sstatus
-        csrr    t0, \it
-        sd      t0, 8*n(sp)
-        .set    n, n + 1
-        .endr
-        csrr    a0, scause
-        call    took_interrupt
-        .set    n, 36
-        .irp    it, fcsr, sepc, sstatus
-        ld      t0, 8*n(sp)
-        csrw    \it, t0
-        .set    n, n + 1
-        .endr
-        each_kept ld, fld
-        addi    sp, sp, 320
+/* resume(record): goes on with what was kept. */
+resume: mv      sp, a0
+        ld      t0, CONTROL(sp)
+        ld      t1, AT(sp)
+        ld      t2, FLAGS(sp)
+        csrw    fcsr, t0
+        csrw    sepc, t1
+        csrw    sstatus, t2
+        each    ld, fld
+        ld      sp, STACK(sp)
         sret
-
-/* change_stacks(kept, next): keeps the registers that C keeps over a call, on the stack, and goes on where another stack was left so. */
-        .macro  each_of_callee word, float
-        .set    n, 0
-        .irp    it, ra, s0, s1, s2, s3, s4, s5, s6, s7, s8, s9, s10, s11
-        \word   \it, 8*n(sp)
-        .set    n, n + 1
-        .endr
-        .irp    it, fs0, fs1, fs2, fs3, fs4, fs5, fs6, fs7, fs8, fs9, fs10, fs11
-        \float  \it, 8*n(sp)
-        .set    n, n + 1
-        .endr
-        .endm
-        .global change_stacks
-change_stacks:
-        addi    sp, sp, -208
-        each_of_callee sd, fsd
-        sd      sp, (a0)
-        ld      sp, (a1)
-        each_of_callee ld, fld
-        addi    sp, sp, 208
-        ret
 
         .bss
         .balign 16

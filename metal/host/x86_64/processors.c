@@ -1,9 +1,9 @@
-/* A PC's processors: the tables of each, exceptions, interrupts, timers, and how the others begin. */
+/* A PC's processors: the tables of each, traps, timers, and how the others begin. */
 #include "host.h"
 
-enum { EFER = 0xC0000080, STAR = 0xC0000081, LSTAR = 0xC0000082, GS_BASE = 0xC0000101, APIC_BASE = 0x1B }; /* model registers */
-enum { CODE_AT = 0x08, TASK_AT = 0x20 };                                                                    /* places in a GDT */
-extern byte exceptions[], interrupt[], tick[], system_call[], others_start[], others_end[];
+enum { GS_BASE = 0xC0000101, APIC_BASE = 0x1B, X2APIC = 0x800 }; /* model registers */
+enum { TICK = 32, WAKE, LEAVE, SPURIOUS = 47, TRAPS };           /* numbers of traps; those beneath are exceptions */
+extern byte traps[], others_start[], others_end[];
 extern const size first_gdt[4];
 struct processor *next_up = processors + 1; /* start.S gives it to the next that begins, whichever that is */
 static int has_x2apic;
@@ -36,52 +36,31 @@ const void *__x86_get_cpuid_feature_leaf(unsigned leaf) {
 
 /* ---- interrupts: registers of a processor's own chip, in memory or in x2APIC mode among the model's */
 
-enum { PRIORITY = 0x80, END = 0xB0, SPURIOUS = 0xF0, COMMAND = 0x300, TO = 0x310, TIMER = 0x320, COUNT = 0x380, DIVIDE = 0x3E0 };
-enum { ENDS_HALT = 0x40, TICK = 0x41, TO_ALL_OTHERS = 3 << 18, IS_BEING_SENT = 1 << 12, INIT = 0x4500, BEGIN = 0x4600, OTHERS_PAGE = 0x8000 };
+enum { NAME = 0x20, PRIORITY = 0x80, END = 0xB0, CONTROL = 0xF0, COMMAND = 0x300, TO = 0x310, TIMER = 0x320, COUNT = 0x380, DIVIDE = 0x3E0 };
+enum { TO_ALL_OTHERS = 3 << 18, IS_BEING_SENT = 1 << 12, INIT = 0x4500, BEGIN = 0x4600, OTHERS_PAGE = 0x8000 };
 
 static volatile unsigned *apic_register(unsigned place) { return (volatile unsigned *)((model_register(APIC_BASE) & 0xFFFFFF000) + place); }
 
 static void set_apic(unsigned place, size value) {
-  enum { X2APIC = 0x800 };
   if (has_x2apic)
     set_model_register(X2APIC + place / 16, value);
   else
     *apic_register(place) = value;
 }
 
+/* Sends a command; what was written before is seen by whom it goes to. */
 static void send(unsigned apic, unsigned command) {
-  if (has_x2apic) {
-    __asm__ volatile("mfence; lfence" : : : "memory"); /* what was written before is seen by whom it goes to */
-    return set_apic(COMMAND, (size)apic << 32 | command);
-  }
-  size flags; /* two registers, and one command */
-  __asm__ volatile("pushfq; popq %0; cli" : "=r"(flags) : : "memory");
-  set_apic(TO, apic << 24);
-  set_apic(COMMAND, command);
-  while (*apic_register(COMMAND) & IS_BEING_SENT) pause();
-  __asm__ volatile("pushq %0; popfq" : : "r"(flags) : "memory", "cc");
+  __asm__ volatile("mfence; lfence" : : : "memory");
+  if (!has_x2apic) set_apic(TO, apic << 24);
+  set_apic(COMMAND, has_x2apic ? (size)apic << 32 | command : command);
+  while (!has_x2apic && *apic_register(COMMAND) & IS_BEING_SENT) pause();
 }
 
 /* Ends the halt of each other processor, or its next one if it is in none. */
-void end_halts(void) { send(0, TO_ALL_OTHERS | ENDS_HALT); }
+void end_halts(void) { send(0, TO_ALL_OTHERS | WAKE); }
 
 /* A tick after this time, at whatever rate the timer goes: in QEMU a count of it is a nanosecond. */
-void set_timer(size nanoseconds) {
-  enum { UNDIVIDED = 0xB };
-  set_apic(DIVIDE, UNDIVIDED);
-  set_apic(TIMER, TICK);
-  set_apic(COUNT, nanoseconds);
-}
-
-/* What start.S calls in an interrupt. */
-void took_interrupt(int is_tick) {
-  set_apic(END, 0);
-  interrupted(is_tick);
-}
-
-/* Halts until an interrupt, also one that came since interrupts went off: who looks first, and halts then, sleeps through no word that is
-   written before the interrupt is sent. */
-void halt(void) { __asm__ volatile("sti; hlt; cli" : : : "memory"); }
+void set_timer(size nanoseconds) { set_apic(COUNT, nanoseconds); }
 
 /* From now on interrupts of the keyboard and of the first serial line, the first and the fourth of the ISA bus, end a halt of the first processor. */
 void listen(void) {
@@ -90,62 +69,63 @@ void listen(void) {
   volatile unsigned *chip = (volatile unsigned *)io_apic;
   for (unsigned i = 0; io_apic && i < sizeof devices; i++) {
     chip[0] = REDIRECTION + BYTES * devices[i] + 1;
-    chip[WINDOW / 4] = numbers[0] << 24;
+    chip[WINDOW / 4] = processors[0].number << 24;
     chip[0] = REDIRECTION + BYTES * devices[i];
-    chip[WINDOW / 4] = ENDS_HALT;
+    chip[WINDOW / 4] = WAKE;
   }
   out(lines[0].at + 1, 1); /* one, where the line has a byte */
 }
 
+/* What start.S calls in each trap, with the registers that it kept. Without its bit the instruction syscall is none, and so a trap; this stands for it. */
+_Noreturn void trapped(struct frame *it) {
+  enum { NO_INSTRUCTION = 6, PAGE_FAULT = 14, SYSCALL = 0x050F };
+  static const char *const names[TICK] = {"a division by 0", [NO_INSTRUCTION] = "an instruction that is none", [8] = "a fault in a fault",
+                                          [13] = "a general protection fault", [PAGE_FAULT] = "a page fault"};
+  if (it->number == NO_INSTRUCTION && *(const unsigned short *)it->at == SYSCALL) {
+    it->rax = call_system(it->rax, (unsigned *)it->rdi, it->rsi, it->rdx);
+    it->at += 2;
+    work(TICKED);
+  }
+  if (it->number < TICK) {
+    size address;
+    __asm__ volatile("movq %%cr2, %0" : "=r"(address));
+    const char *name = it->number == PAGE_FAULT && is_guard(address) ? "a full stack" : names[it->number];
+    tell_trap(name ? name : "an exception", it->number, it->error, it, address);
+  }
+  if (it->number < LEAVE) set_apic(END, 0);
+  work(it->number == LEAVE ? GAVE_BACK : it->number == TICK ? TICKED : WOKEN);
+}
+
 /* ---- tables */
 
-/* Loads what a processor needs to know itself, to take exceptions and interrupts, and to take the instruction syscall. An exception goes to C on the stack of
-   exceptions; an interrupt begins on a small stack of its own. */
+/* Loads what a processor needs to know itself and to take traps. Each trap begins behind the record that keeps registers. */
 void set_tables(struct processor *it) {
-  enum { EXCEPTIONS = 32, STUB = 16, EXCEPTION_STACK = 9, TICK_STACK = 11, PERMISSIONS = 25, HAS_APIC = 1 << 9, IS_X2APIC = 1 << 10 };
-  static size gates[256][2];
-  unsigned has[4], most[4], wide[4];
-  for (size i = 0; i < sizeof gates / sizeof *gates; i++) {
-    size is_exception = i < EXCEPTIONS, stack = is_exception ? 1 : 2, to = (size)(is_exception ? exceptions + STUB * i : i == TICK ? tick : interrupt);
-    gates[i][0] = (to & 0xFFFF) | CODE_AT << 16 | stack << 32 | (size)0x8E << 40 | to >> 16 << 48; /* beneath 4 GiB */
-  }
+  enum { STUB = 16, TASK_AT = 0x20, GATE = 0x8E, TASK = 0x89, HAS_APIC = 1 << 9, IS_X2APIC = 1 << 10, IS_ON = 1 << 8, UNDIVIDED = 0xB };
+  static size gates[TRAPS][2];
+  unsigned has[4];
+  for (size i = 0, to = (size)traps; i < TRAPS; i++, to += STUB) /* beneath 4 GiB */
+    gates[i][0] = (to & 0xFFFF) | CODE_AT << 16 | (size)1 << 32 | (size)GATE << 40 | to >> 16 << 48;
   struct tables *own = &it->tables;
-  size tss = (size)own->tss;
+  size task = (size)own;
   memcpy(own->gdt, first_gdt, 4 * sizeof(size));
-  own->gdt[4] = (sizeof own->tss - 1) | (tss & 0xFFFFFF) << 16 | (size)0x89 << 40 | tss >> 24 << 56;
-  own->tss[EXCEPTION_STACK] = (size)it->trap_stack_end;
-  own->tss[TICK_STACK] = (size)(own->tick_stack + sizeof own->tick_stack);
-  own->tss[PERMISSIONS] = sizeof own->tss << 16;
+  own->gdt[4] = (sizeof *own - sizeof own->gdt - 1) | (task & 0xFFFFFF) << 16 | (size)TASK << 40 | task >> 24 << 56;
+  own->permissions = sizeof *own - sizeof own->gdt;
+  own->frame_end = &it->halted + 1;
   struct __attribute__((packed)) { unsigned short last; const void *at; } gdt = {sizeof own->gdt - 1, own->gdt}, idt = {sizeof gates - 1, gates};
   __asm__ volatile("lgdt %0; lidt %1; ltr %w2" : : "m"(gdt), "m"(idt), "r"(TASK_AT) : "memory");
   set_model_register(GS_BASE, (size)it);
-  set_model_register(STAR, (size)CODE_AT << 32);
-  set_model_register(LSTAR, (size)system_call);
-  set_model_register(EFER, model_register(EFER) | 1);
   cpuid(1, has);
-  cpuid(0, most);
-  cpuid(0xB, wide);
   if (!(has[3] & HAS_APIC)) ends("host: there is no timer", NO_PROCESSOR);
   if (it == processors) has_x2apic = !!(model_register(APIC_BASE) & IS_X2APIC); /* as the firmware left it; then the others do the same */
   if (has_x2apic) set_model_register(APIC_BASE, model_register(APIC_BASE) | IS_X2APIC);
-  if (it == processors) numbers[0] = it->number = has_x2apic && most[0] >= 0xB ? wide[3] : has[1] >> 24;
-  if (it == processors) is_lent = has[2] >> 31; /* what a hypervisor says of itself */
+  if (it == processors) it->number = has_x2apic ? model_register(X2APIC + NAME / 16) : *apic_register(NAME) >> 24;
   set_apic(PRIORITY, 0);
-  set_apic(SPURIOUS, 0x1FF);
+  set_apic(CONTROL, IS_ON | SPURIOUS);
+  set_apic(DIVIDE, UNDIVIDED);
+  set_apic(TIMER, TICK);
 }
 
 void forget_pages(void) { __asm__ volatile("movq %%cr3, %%rax; movq %%rax, %%cr3" : : : "rax", "memory"); }
-void forget_page(const byte *at) { __asm__ volatile("invlpg (%0)" : : "r"(at) : "memory"); }
-
-/* What start.S calls in an exception. */
-_Noreturn void trapped(size number, size error, size at, size stack) {
-  enum { PAGE_FAULT = 14 };
-  static const char *const names[32] = {"a division by 0", [6] = "an instruction that is none", [8] = "a fault in a fault", [13] = "a general protection fault",
-                                        [PAGE_FAULT] = "a page fault"};
-  size address;
-  __asm__ volatile("movq %%cr2, %0" : "=r"(address));
-  tell_trap(number == PAGE_FAULT && is_guard(address) ? "a full stack" : names[number] ? names[number] : "an exception", number, error, at, stack, address);
-}
 
 /* ---- how the others begin, and how the run ends */
 
@@ -155,9 +135,9 @@ void microsecond(void) { in(0x80); } /* about one on a PC, and less in QEMU */
 void call_others(int is_first) {
   enum { WAIT = 20000 };
   memcpy((void *)OTHERS_PAGE, others_start, others_end - others_start);
-  for (unsigned i = 1; is_first && i < processor_count; i++) send(numbers[i], INIT);
+  for (unsigned i = 1; is_first && i < processor_count; i++) send(processors[i].number, INIT);
   for (int wait = 0; is_first && wait < WAIT; wait++) microsecond();
-  for (unsigned i = 1; i < processor_count; i++) send(numbers[i], BEGIN | OTHERS_PAGE / PAGE);
+  for (unsigned i = 1; i < processor_count; i++) send(processors[i].number, BEGIN | OTHERS_PAGE / PAGE);
 }
 
 /* QEMU's isa-debug-exit at port 0xF4 makes 2 * status + 3 of what it is given, since 1 is QEMU's own. */

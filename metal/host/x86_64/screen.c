@@ -1,58 +1,58 @@
-/* The screen of a PC, 25 lines of 80 letters: a BIOS leaves one of letters, UEFI one of dots, for which there is a font. And the keyboard. */
+/* The screen of a PC, 25 lines of 80 letters: a BIOS leaves one of letters, GRUB one of dots, for which there is a font. And the keyboard. */
 #include "host.h"
 
 #include "font.h"
 
 enum { WIDE = 80, HIGH = 25, GREY = 0x0700, BRIGHT = 0x0F00 };
 static unsigned short cells[WIDE * HIGH]; /* what is on the screen */
-static unsigned *dots; /* of a screen of dots the first, or 0 */
-static unsigned dots_pitch;
+static byte *dots; /* of a screen of dots the first, or 0 */
+static size dots_pitch, dot_bytes; /* from one line of dots to the next, from one dot to the next */
 
-/* Shows a cell as it is: of dots, in 8 times 16 of them. */
-static void draw(unsigned at) {
-  enum { COLUMNS = 5, ACROSS = 8, DOWN = 16, WHITE = 0xFFFFFF, DIM = 0xAAAAAA };
-  volatile unsigned short *letters = (volatile unsigned short *)0xB8000;
-  unsigned letter = cells[at] & 0xFF, colour = (cells[at] & 0xFF00) == BRIGHT ? WHITE : DIM;
-  const char *columns = font + COLUMNS * (letter > ' ' && letter <= '~' ? letter - ' ' : 0);
-  unsigned *dot = dots + at / WIDE * DOWN * dots_pitch + at % WIDE * ACROSS;
-  if (!dots) letters[at] = cells[at];
-  for (unsigned i = 0; dots && i < ACROSS * DOWN; i++)
-    dot[i / ACROSS * dots_pitch + i % ACROSS] = i % ACROSS < COLUMNS && columns[i % ACROSS] >> i / ACROSS / 2 & 1 ? colour : 0;
-}
-
-static void put_cursor(unsigned at) {
-  enum { PLACE = 0x3D4, VALUE = 0x3D5 };
-  out(PLACE, 14);
-  out(VALUE, at >> 8);
-  out(PLACE, 15);
-  out(VALUE, at);
-}
-
+/* Shows a cell anew: of dots, in 8 times 16 of them. */
 static void set_cell(unsigned at, unsigned short cell) {
+  enum { COLUMNS = 5, ACROSS = 8, DOWN = 16, WHITE = 0xFF, DIM = 0xAA };
+  volatile unsigned short *letters = (volatile unsigned short *)0xB8000;
+  unsigned letter = cell & 0xFF, light = (cell & 0xFF00) == BRIGHT ? WHITE : DIM;
+  const char *columns = font + COLUMNS * (letter > ' ' && letter <= '~' ? letter - ' ' : 0);
   if (cells[at] == cell) return;
   cells[at] = cell;
-  draw(at);
+  if (!dots) letters[at] = cell;
+  for (unsigned i = 0; dots && i < ACROSS * DOWN; i++) {
+    unsigned x = i % ACROSS, y = i / ACROSS;
+    volatile byte *dot = dots + (at / WIDE * DOWN + y) * dots_pitch + (at % WIDE * ACROSS + x) * dot_bytes;
+    dot[0] = dot[1] = dot[2] = x < COLUMNS && columns[x] >> y / 2 & 1 ? light : 0;
+  }
 }
 
-/* There is a screen of dots. One that is too small shows nothing. */
-void has_screen(size at, unsigned pitch, unsigned wide, unsigned high) {
-  if (wide < WIDE * 8 || high < HIGH * 16) return;
-  dots = (unsigned *)at;
-  dots_pitch = pitch / sizeof *dots;
+/* Takes away what the firmware showed, and its cursor. */
+void clear_screen(void) {
+  enum { PLACE = 0x3D4, VALUE = 0x3D5, CURSOR = 0xA, IS_OFF = 0x20 };
+  out(PLACE, CURSOR);
+  out(VALUE, IS_OFF);
+  for (unsigned i = 0; i < WIDE * HIGH; i++) set_cell(i, GREY | ' ');
 }
 
-/* Shows a byte behind those that it has; those of standard error are bright. */
+/* There is a screen of dots. One that is too small, or that has fewer than three bytes a dot, shows nothing. */
+void has_screen(size at, unsigned pitch, unsigned wide, unsigned high, unsigned bits) {
+  if (wide < WIDE * 8 || high < HIGH * 16 || bits < 24) return;
+  dots = (byte *)at;
+  dots_pitch = pitch;
+  dot_bytes = bits / 8;
+}
+
+/* Shows a byte behind those that it has, and the place of the next; those of standard error are bright. */
 void show(long fd, byte one) {
   static unsigned at;
+  set_cell(at, one == '\n' || one == '\r' || one == '\b' ? GREY | ' ' : (fd == 2 ? BRIGHT : GREY) | one);
   if (one == '\b')
-    set_cell(at -= at > 0, GREY | ' ');
+    at -= at > 0;
   else if (one == '\n')
     at += WIDE - at % WIDE;
   else if (one != '\r')
-    set_cell(at++, (fd == 2 ? BRIGHT : GREY) | one);
+    at++;
   for (; at >= WIDE * HIGH; at -= WIDE)
     for (unsigned i = 0; i < WIDE * HIGH; i++) set_cell(i, i < WIDE * (HIGH - 1) ? cells[i + WIDE] : GREY | ' ');
-  put_cursor(at);
+  set_cell(at, GREY | '_');
 }
 
 /* The letter of the key that was pressed last, or -1 where there is none. */

@@ -1,8 +1,8 @@
-/* Behind the firmware, which lies in the first 2 MiB of memory. Code, constants and the rest begin on pages of their own. */
+/* One segment, where the machine wants it. Code, constants and the rest begin on pages of their own. */
 ENTRY(start)
 PHDRS { all PT_LOAD FLAGS(7); }
 SECTIONS {
-  . = 0x80200000;
+  . = image_at;
   image_start = .;
   .boot : { *(.boot) } :all
   .text ALIGN(4096) : { *(.text .text.*) } :all
@@ -11,7 +11,10 @@ SECTIONS {
   .got : { *(.got .got.*) } :all
   constants_end = ALIGN(4096);
   .data ALIGN(4096) : { *(.data .data.* .sdata .sdata.*) } :all
+  . = ALIGN(16);
+  loaded_end = .;
   .bss : { *(.sbss .sbss.* .bss .bss.* COMMON) } :all
-  image_end = .;
+  image_end = ALIGN(16);
+  image_size = image_end - image_start;
   /DISCARD/ : { *(.comment) *(.eh_frame) *(.note*) *(.riscv.attributes) }
 }
