@@ -9,7 +9,7 @@ use searcher::mistakes::{Mistake, MISTAKES};
 use searcher::plan::{read_plan, Plan};
 use searcher::questions::{Question, GRAMMAR};
 use searcher::report::{answer, replayed, report};
-use searcher::schedules::schedule_text;
+use searcher::schedules::{schedule_text, Run};
 use searcher::search::{End, Options, Progress, Search, Target};
 use searcher::traces::{state_text, trace_text};
 use std::io::{IsTerminal, Read, Write};
@@ -35,8 +35,8 @@ schedule to a state that is asked for. Nothing here is proved.
   --memory MB       the most memory for states (default: half of what is available)
   --audit           goes through all states by single steps too, and compares the two searches
   --compare[=K]     the proved program runs the shortest schedule to each state, or to K of them,
-                    and must print that state. --program FILE names it (default: $MCTOWER, or
-                    crates/mctower/out/mctower)
+                    and to what was found, and must print that state. --program FILE names it
+                    (default: $MCTOWER, or crates/mctower/out/mctower)
   --progress S      how often progress is told on standard error, in seconds (0: never; default: 1
                     on a terminal, else 0)
   --time            what the search took
@@ -246,28 +246,39 @@ fn proved_prints(program: &str, plan: &[u8], schedule: &str) -> std::io::Result<
     Ok((text(output.stdout), text(output.stderr)))
 }
 
-/// Runs the proved program to `most` of the states, evenly chosen; says what was compared.
+/// Runs the proved program by a schedule, after which it must print what the step table says;
+/// returns whether the traces of the plan have room for it.
+fn is_printed(plan: &Plan, raw: &[u8], program: &str, runs: &[Run]) -> Result<bool, Failure> {
+    let Some(system) = replayed(plan, None, runs, false) else { return Ok(false) };
+    let schedule = schedule_text(runs);
+    let proved = proved_prints(program, raw, &schedule).map_err(|fault| Failure { words: format!("{program}: {fault}"), status: 2 })?;
+    let ours = (trace_text(&system), state_text(&system));
+    if ours == proved {
+        return Ok(true);
+    }
+    let words = format!("after '{schedule}' the proved program prints\n{}{}and not\n{}{}", proved.0, proved.1, ours.0, ours.1);
+    Err(Failure { words, status: 1 })
+}
+
+/// Runs the proved program by the schedule that was found, and to `most` of the states, evenly
+/// chosen; says what was compared.
 fn compare(search: &mut Search, plan: &Plan, raw: &[u8], program: &str, most: usize) -> Result<String, Failure> {
     let count = search.len();
     let many = most.min(count);
-    let (mut compared, mut too_long) = (0, 0);
+    let (mut compared, mut too_long, mut also) = (0, 0, "");
+    if let Some(target) = search.found() {
+        let runs = search.calm_runs_to(target);
+        also = if is_printed(plan, raw, program, &runs)? { "what was found and in " } else { "" };
+    }
     for i in 0..many {
         let runs = search.runs_to(Target::State((i as u64 * count as u64 / many as u64) as u32));
-        let Some(system) = replayed(plan, None, &runs, false) else {
-            too_long += 1;
-            continue;
-        };
-        let schedule = schedule_text(&runs);
-        let failed = |words: String| Failure { words, status: 1 };
-        let proved = proved_prints(program, raw, &schedule).map_err(|fault| Failure { words: format!("{program}: {fault}"), status: 2 })?;
-        let ours = (trace_text(&system), state_text(&system));
-        if ours != proved {
-            return Err(failed(format!("after '{schedule}' the proved program prints\n{}{}and not\n{}{}", proved.0, proved.1, ours.0, ours.1)));
+        match is_printed(plan, raw, program, &runs)? {
+            true => compared += 1,
+            false => too_long += 1,
         }
-        compared += 1;
     }
     let rest = if too_long == 0 { String::new() } else { format!("; {too_long} more need longer traces than the plan's") };
-    Ok(format!("compared with the proved program in {compared} states: each prints the same{rest}"))
+    Ok(format!("compared with the proved program in {also}{compared} states: each prints the same{rest}"))
 }
 
 /// Does what a command line asks for; returns the status.

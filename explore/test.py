@@ -1,15 +1,17 @@
 #!/usr/bin/env python3
 """Tries explore/: builds it, and holds what it answers against other programs. .ci/run calls it.
 
-    explore/test.py [PROGRAM]
+    explore/test.py [PROGRAM] [--all]
 
 Its reports by single steps are compared with those of plans/states.py, byte for byte, on small plans, on each
 mistake, and on random plans; each reduction is compared with the search that reduces nothing (--audit); each
 schedule that it finds is run by plans/kernel.py, and must lead to what was asked for; what it refuses is compared
 with the rows of tests/tables. The proved program PROGRAM (else $MCTOWER, else the one in crates/mctower/out) runs
-the shortest schedules to all states of small plans; without one the last lines say that this was left out.
-It needs rustc, and takes two minutes on two cores. The last line is 'explore: N passed, M failed'; without rustc
-the status is 77.
+these schedules too, and the shortest ones to all states of small plans; without one the last lines say that this
+was left out.
+It needs rustc, and takes two minutes on two cores; with --all, every plan is compared that plans/states.py or
+single steps can finish, which takes an hour. The last line is 'explore: N passed, M failed'; without rustc the
+status is 77.
 """
 import argparse
 import os
@@ -37,7 +39,9 @@ from tables import cases  # noqa: E402
 PLANS = sorted((ROOT / "plans").glob("*.toml")) + sorted((ROOT / "tests/rows").glob("*.toml"))
 OWN = {path.stem: path for path in (ROOT / "explore/plans").glob("*.toml")}
 SEVENTY_SEVEN = 77  # nothing was looked at
-MOST_FOR_PYTHON = 8_000  # states that plans/states.py goes through in a second
+# How many states plans/states.py is asked for, and the megabytes that single steps may take where a reduction is compared with them: in the gate, so many as
+# take a second; with --all, as many as plans/states.py takes, and as many as a program may have here.
+SOME, ALL = (8_000, 12), (300_000, 600)
 # A plan on which each mistake is seen.
 BREAKS = {"look-always-hits": "plans/woken-from-afar", "pend-keeps-the-hand": "plans/receives-twice", "wakes-where-it-is": "plans/woken-from-afar",
           "release-frees-the-lock": "plans/woken-from-afar", "wait-frees-first": "plans/woken-from-afar", "first-word-alone": "tests/rows/words",
@@ -79,8 +83,9 @@ print(kernel.states().replace("quiet no", "quiet yes" if len(steps) == {lie} els
 class Tally:
     """What was tried, what went wrong, and what was left out."""
 
-    def __init__(self, room):
+    def __init__(self, room, limits=SOME):
         self.room, self.program = Path(room), Path(room) / "out/explore"
+        self.most_states, self.most_megabytes = limits
         self.count, self.faults, self.left_out = 0, [], []
 
     def holds(self, is_so, words):
@@ -103,7 +108,7 @@ class Tally:
 
 def model_report(*words):
     """The report of plans/states.py."""
-    ran = subprocess.run([sys.executable, "plans/states.py", "--most", "100000", *map(str, words)], cwd=ROOT, stdout=subprocess.PIPE, text=True)
+    ran = subprocess.run([sys.executable, "plans/states.py", "--most", "300000", *map(str, words)], cwd=ROOT, stdout=subprocess.PIPE, text=True)
     return ran.returncode, ran.stdout
 
 
@@ -145,9 +150,9 @@ def endless(tally):
 
 
 def small(tally, path, *words):
-    """Whether plans/states.py is quick on a plan."""
-    _, out, _ = tally.ask("--steps", "--memory", 2, *words, path)
-    return "not all states were seen" not in out and (states_in(out)[0] or 0) <= MOST_FOR_PYTHON
+    """Whether plans/states.py is asked for the states of a plan."""
+    _, out, _ = tally.ask("--steps", "--memory", 2 + tally.most_states // 4000, *words, path)
+    return "not all states were seen" not in out and (states_in(out)[0] or 0) <= tally.most_states
 
 
 def reports(tally):
@@ -171,13 +176,13 @@ def random_reports(tally):
 
 def audited(tally, path, *words):
     """A reduction is compared with the search by single steps."""
-    status, out, told = tally.ask("--audit", "--memory", 80, *words, path)
+    status, out, told = tally.ask("--audit", "--memory", 80 + 2 * tally.most_megabytes, *words, path)
     tally.holds(status == 0 and "each state of one is a state of the other" in out, f"{path.name} {' '.join(words)} --audit: {status} {out}{told}")
 
 
 def has_few(tally, path):
-    """Whether single steps go through all states of a plan in a second; else it is not compared."""
-    is_small = tally.ask("--steps", "--memory", 12, path)[0] != 3
+    """Whether single steps go through all states of a plan; else it is not compared."""
+    is_small = tally.ask("--steps", "--memory", tally.most_megabytes, path)[0] != 3
     if not is_small:
         tally.left_out.append(f"reductions on {path.name}, which has too many states")
     return is_small
@@ -207,8 +212,18 @@ def leads_there(path, asked, schedule, mistake=None):
     return asked_for(asked, plan)(kernel)
 
 
-def answers(tally):
-    """Schedules that are found lead there; that there is none is said of all states alone."""
+def is_printed(program, path, schedule):
+    """Whether the proved program prints of a run what plans/kernel.py does. Traces of a plan without an end get the room that the run needs."""
+    text = re.sub(r"(?m)^trace = \d+", "trace = 1000", path.read_text(encoding="utf-8"))
+    kernel = Kernel(read_plan(text.encode()))
+    for c in steps_of(schedule):
+        kernel.step(c)
+    ran = subprocess.run([program, "run", "--schedule", schedule], input=text, stdout=subprocess.PIPE, stderr=subprocess.PIPE, text=True)
+    return (ran.returncode, ran.stdout, ran.stderr) == (0, kernel.text(), kernel.states())
+
+
+def answers(tally, program):
+    """Schedules that are found lead there, in plans/kernel.py and in the proved program; that there is none is said of all states alone."""
     for name, asked, words, is_there in ASKED:
         path = ROOT / f"{name}.toml"
         status, out, told = tally.ask(path, "--find", asked, *words)
@@ -216,6 +231,7 @@ def answers(tally):
         tally.holds((status, bool(found)) == ((0, True) if is_there else (1, False)), f"{name}: {asked}: {status} {out}{told}")
         if found:
             tally.holds(leads_there(path, asked, found[1]) and len(steps_of(found[1])) == int(found[2]), f"{name}: {out}: plans/kernel.py is elsewhere")
+            tally.holds(not program.is_file() or is_printed(program, path, found[1]), f"{name}: {out}: the proved program is elsewhere")
         else:
             tally.holds("no schedule, however long, reaches one (these are all" in out, f"{name}: {out}")
 
@@ -335,21 +351,26 @@ def compared(tally, program):
     for name, words in (("two-senders", []), ("woken-from-afar", ["--steps"]), ("receives-twice", ["--steps"]), ("closed-for-two", ["--endless"])):
         status, out, told = tally.ask("--compare", "--program", program, *words, ROOT / f"plans/{name}.toml")
         tally.holds(status == 0 and "each prints the same" in out, f"{name} beside the proved program: {status} {out[-500:]}{told}")
+    status, out, told = tally.ask("--compare=0", "--program", program, "--find", "effects 2", ROOT / "plans/full-buffer.toml")
+    tally.holds(status == 0 and "in what was found and in 0 states: each prints the same" in out, f"--find beside the proved program: {status} {out}{told}")
 
 
 def main():
     read = argparse.ArgumentParser(description=__doc__, formatter_class=argparse.RawDescriptionHelpFormatter)
     read.add_argument("program", nargs="?", type=Path, default=Path(os.environ.get("MCTOWER", ROOT / "crates/mctower/out/mctower")))
-    program = read.parse_args().program.resolve()
+    read.add_argument("--all", action="store_true")
+    words = read.parse_args()
+    program = words.program.resolve()
     if not shutil.which("rustc"):
         print("explore: nothing was looked at, since no rustc is here to build it\nexplore: 0 passed, 0 failed")
         return SEVENTY_SEVEN
     with tempfile.TemporaryDirectory() as room:
-        tally = Tally(room)
+        tally = Tally(room, ALL if words.all else SOME)
         built = subprocess.run(["rustc", "-O", "--out-dir", f"{room}/out", ROOT / "explore/explore.rs"], stderr=subprocess.PIPE, text=True)
         tally.holds(built.returncode == 0 and not built.stderr, f"rustc says: {built.stderr}")
-        for what in (lines, refusals, documents, answers, breaches, reports, random_reports, endless, counts, audits, memory):
+        for what in (lines, refusals, documents, breaches, reports, random_reports, endless, counts, audits, memory):
             what(tally)
+        answers(tally, program)
         compared(tally, program)
     print(*tally.faults, sep="\n", end="\n" if tally.faults else "")
     for what in tally.left_out:

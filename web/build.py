@@ -21,9 +21,10 @@ ROOT = Path(__file__).resolve().parent.parent
 PARTS, PAGE = ROOT / "web/page", ROOT / "web/tower.html"
 sys.path.append(str(ROOT / "plans"))
 import kernel  # noqa: E402
+import limits  # noqa: E402
 import record  # noqa: E402
 
-# The page's scripts, one behind the other; those of plans/ are of the pages of runs as well.
+# The page's scripts, one behind the other, after the limits of plans/limits.json; those of plans/ are of the pages of runs as well.
 NAMES = ("markup", "schedule", "program", "toml", "plan", "twin", "laws", "record", "judge", "where", "session", "ownlaw", "tables", "pieces",
          "moves", "groups", "states", "search", "beside", "finder", "player", "about", "page")
 SCRIPTS = [ROOT / "plans/look.js", *(PARTS / f"{name}.js" for name in NAMES)]
@@ -80,8 +81,8 @@ def code_of(path):
 def assembled(program, about):
     """The page: its parts, and a policy that allows them alone."""
     style = "\n".join(["", (ROOT / "plans/look.css").read_text(encoding="utf-8"), record.place_style(), (PARTS / "page.css").read_text(encoding="utf-8")])
-    scripts = ["\n" + code_of(path) for path in SCRIPTS]
-    policy = POLICY.format(scripts=" ".join(map(digest, scripts)), styles=digest(style))
+    scripts = {"limits": "\n" + limits.script(), **{path.stem: "\n" + code_of(path) for path in SCRIPTS}}
+    policy = POLICY.format(scripts=" ".join(map(digest, scripts.values())), styles=digest(style))
     pieces = {
         "POLICY": policy,
         "STYLE": f"<style>{style}</style>",
@@ -89,7 +90,7 @@ def assembled(program, about):
         "LESSONS": as_json(json.loads((PARTS / "lessons.json").read_text(encoding="utf-8"))),
         "FACTS": as_json({"program": about, "places": record.PLACES, "mistakes": kernel.WRONG}),
         "PROGRAM": program,
-        "SCRIPTS": "\n".join(f'<script id="script-{path.stem}">{text}</script>' for path, text in zip(SCRIPTS, scripts)),
+        "SCRIPTS": "\n".join(f'<script id="script-{name}">{text}</script>' for name, text in scripts.items()),
     }
     page = (PARTS / "tower.html").read_text(encoding="utf-8")
     return re.sub(r"\{\{([A-Z]+)\}\}", lambda found: pieces[found.group(1)], page)

@@ -1,6 +1,8 @@
 // Damaged plans, schedules and texts: the same ones for the same seed.
+import { limitsIn } from './taken.mjs';
 
-const ODD_PIECES = ['00', '01', '', '-', '-1', '+1', '1.0', 'x', '8', '9', '16', '17', '33', '65537', '18446744073709551615', '18446744073709551616', '9223372036854775808',
+const { CPUS, CAPACITY, TRACE } = limitsIn(new URL('..', import.meta.url).pathname), AT_LIMITS = [CPUS, CPUS + 1, CAPACITY + 1, TRACE + 1].map(String);
+const ODD_PIECES = ['00', '01', '', '-', '-1', '+1', '1.0', 'x', '8', '9', ...AT_LIMITS, '18446744073709551615', '18446744073709551616', '9223372036854775808',
   '1e309', '"', "'", '[', ']', '{', '}', ',', '=', '#', 'true', 'r8', 'r7', '\\', '\r\n', '\u00e9', '\u0000', '<script>', '1979-05-27', 'nan', '[[thread]]'];
 
 // A number in [0, below), of a sequence that the seed begins.

@@ -2,7 +2,7 @@
 import { readFileSync } from 'node:fs';
 import vm from 'node:vm';
 
-const SCRIPTS = ['look', 'markup', 'schedule', 'program', 'toml', 'plan', 'twin', 'laws', 'record', 'judge', 'where', 'session', 'ownlaw', 'tables', 'pieces', 'moves', 'groups', 'states', 'search', 'beside'];
+const SCRIPTS = ['limits', 'look', 'markup', 'schedule', 'program', 'toml', 'plan', 'twin', 'laws', 'record', 'judge', 'where', 'session', 'ownlaw', 'tables', 'pieces', 'moves', 'groups', 'states', 'search', 'beside'];
 const GLOBALS = { TextEncoder, TextDecoder, WebAssembly, Response, DecompressionStream, performance };
 
 // The text of the page's script or data of some id.
@@ -26,5 +26,10 @@ export async function taken(path) {
   return { program, evaluate, facts: JSON.parse(elementOf(page, 'facts')), lessons: JSON.parse(elementOf(page, 'lessons')) };
 }
 
+// The limits of a tree, and as a script, which web/build.py puts in front of the page's own.
+export const limitsIn = root => JSON.parse(readFileSync(`${root}/plans/limits.json`, 'utf8'));
+export const limitsOf = root => `"use strict";\nconst LIMITS = ${JSON.stringify(limitsIn(root))};\n`;
+
 // The same scripts as they stand in the tree.
-export const sources = root => scriptsOf(SCRIPTS.map(name => readFileSync(`${root}/${name === 'look' ? 'plans' : 'web/page'}/${name}.js`, 'utf8')));
+const sourceOf = (root, name) => (name === 'limits' ? limitsOf(root) : readFileSync(`${root}/${name === 'look' ? 'plans' : 'web/page'}/${name}.js`, 'utf8'));
+export const sources = root => scriptsOf(SCRIPTS.map(name => sourceOf(root, name)));

@@ -6,7 +6,7 @@ import { dirname, join } from 'node:path';
 import { fileURLToPath } from 'node:url';
 import { chooser, damaged } from './damage.mjs';
 import { refusals } from './refusals.mjs';
-import { elementOf, sources, taken } from './taken.mjs';
+import { elementOf, limitsOf, sources, taken } from './taken.mjs';
 
 const HELP = `Holds the page web/tower.html against this tree: the program in it against the native program, the model in it against both and plans/kernel.py.
 
@@ -124,7 +124,7 @@ class Held {
     if (refusal === null && this.evaluate('readSchedule')(schedule).total <= SMALL_STEPS) is(`the model of ${name}`, this.isModelled(plan, schedule));
   }
 
-  // The page's own judge says no in the same line for the same reason, and says what is wanted there.
+  // The page's own judge says no in the same line for the same reason, and says what is expected there.
   judges(name, text) {
     const verdict = this.program.run(['check'], text).output.trimEnd(), fault = this.evaluate('faultOf')(text);
     const mine = fault === null ? 'yes' : `no ${fault.line} ${fault.reason}`;
@@ -132,15 +132,15 @@ class Held {
     this.judged.push(text);
   }
 
-  // Of the same texts plans/judging.py says the same is wanted. What it says of a line that is misspelled it may say in other words.
-  wantedBeside() {
+  // Of the same texts plans/judging.py says the same is expected. What it says of a line that is misspelled it may say in other words.
+  expectedBeside() {
     const code = 'import json, sys; sys.path.append("plans"); import judging; '
       + 'print(json.dumps([fault and [fault.line, fault.reason, fault.why] for fault in (judging.fault_in(text.encode()) for text in json.load(sys.stdin))]))';
     const told = spawnSync('python3', ['-c', code], { cwd: ROOT, input: JSON.stringify(this.judged), encoding: 'utf8', maxBuffer: 1 << 28 });
     if (told.status !== 0) throw new Error(`plans/judging.py: ${told.stderr}`);
     JSON.parse(told.stdout).forEach((fault, i) => {
       const mine = this.evaluate('faultOf')(this.judged[i]);
-      if (fault && fault[1] !== 'Spelling(30)') is(`what is wanted: ${mine?.why}, and in plans/judging.py ${fault[2]}`, fault[2].startsWith(mine?.why));
+      if (fault && fault[1] !== 'Spelling(30)') is(`what is expected: ${mine?.why}, and in plans/judging.py ${fault[2]}`, fault[2].startsWith(mine?.why));
     });
   }
 
@@ -324,6 +324,7 @@ function isOfTree() {
   for (const path of ['plans/look.js', ...scripts]) {
     is(`${path} is not that of the page: web/build.py --page`, hasElement(page, path) && elementOf(page, idOf(path)) === `\n${codeOf(read(path))}`);
   }
+  is('plans/limits.json is not that of the page: web/build.py --page', elementOf(page, 'script-limits') === `\n${limitsOf(ROOT)}`);
   for (const [name, text] of Object.entries(JSON.parse(elementOf(page, 'plans')))) is(`the plan ${name} is not that of the page`, text === read(`plans/${name}.toml`));
   is('a plan is not in the page', Object.keys(JSON.parse(elementOf(page, 'plans'))).length === readdirSync(join(ROOT, 'plans')).filter(name => name.endsWith('.toml')).length);
   is('the lessons are not those of the page', elementOf(page, 'lessons') === JSON.stringify(JSON.parse(read('web/page/lessons.json'))).replaceAll('<', '\\u003c'));
@@ -367,7 +368,7 @@ async function main() {
     held.storedRuns();
     held.randomRuns(folder, many);
     held.damagedRuns(many);
-    held.wantedBeside();
+    held.expectedBeside();
     held.places();
     held.modelRuns();
     held.lessonRuns();

@@ -1,16 +1,20 @@
 //! Plans and the programs of their threads, with the refusals of `mctower`, each with its number.
 
+#[path = "../../plans/limits.rs"]
+mod limits;
+
+use self::limits::{BUFFERS, CAPACITY, CPUS, THREADS, TRACE};
 use super::toml::{read_document, Table, Value};
 use std::fmt;
 
+// A state packs a CPU into four bits, keeps the owners of 16 buffers, and marks 256 threads and 32 locks.
+const _: () = assert!(CPUS <= 16 && BUFFERS <= 16 && THREADS <= 256);
+
 /// The most CPUs of a plan.
-pub const MOST_CPUS: i64 = 16;
-const MOST_THREADS: usize = 256;
-const MOST_BUFFERS: usize = 16;
-const MOST_CAPACITY: i64 = 32;
-const MOST_TRACE: i64 = 65536;
+pub const MOST_CPUS: i64 = CPUS as i64;
+/// Fixed by the format.
 const MOST_LINES: usize = 256;
-/// Registers of a thread, and the most words of a message.
+/// Registers of a thread, and the most words of a message: fixed by the format.
 pub const REGISTERS: usize = 8;
 
 /// The registers of a message call.
@@ -74,7 +78,7 @@ pub struct Thread {
     pub lines: Vec<String>,
 }
 
-/// A plan within its limits: 1 to 16 CPUs, 1 to 256 threads, 1 to 16 buffers.
+/// A plan within its limits, those of `plans/limits.rs`.
 pub struct Plan {
     pub cpus: usize,
     /// How many entries the trace of a CPU has room for.
@@ -162,8 +166,8 @@ pub fn read_plan(raw: &[u8]) -> Result<Plan, Refusal> {
         Ok(document) => document,
         Err(fault) => return refuse("BadToml(20)".to_string(), Some(fault.line), fault.to_string()),
     };
-    let cpus = Key::new("cpus", "cpus", "an integer, 1 to 16").integer(&document, 1, MOST_CPUS)?;
-    let room = Key::new("trace", "trace", "an integer, 1 to 65536").integer(&document, 1, MOST_TRACE)?;
+    let cpus = Key::new("cpus", "cpus", &format!("an integer, 1 to {CPUS}")).integer(&document, 1, MOST_CPUS)?;
+    let room = Key::new("trace", "trace", &format!("an integer, 1 to {TRACE}")).integer(&document, 1, TRACE as i64)?;
     let capacities = read_capacities(&document)?;
     read_lock(&document)?;
     let threads = read_threads(&document, cpus, capacities.len())?;
@@ -171,10 +175,10 @@ pub fn read_plan(raw: &[u8]) -> Result<Plan, Refusal> {
 }
 
 fn read_capacities(document: &Table) -> Result<Vec<usize>, Refusal> {
-    let key = Key::new("buffers", "buffers", "1 to 16 integers, each 1 to 32");
+    let key = Key::new("buffers", "buffers", &format!("1 to {BUFFERS} integers, each 1 to {CAPACITY}"));
     let (items, line) = key.array(document, |item| matches!(item, Value::Integer(_)))?;
     let numbers: Vec<i64> = items.iter().filter_map(|it| if let Value::Integer(n) = it { Some(*n) } else { None }).collect();
-    if numbers.is_empty() || numbers.len() > MOST_BUFFERS || numbers.iter().any(|it| !(1..=MOST_CAPACITY).contains(it)) {
+    if numbers.is_empty() || numbers.len() > BUFFERS || numbers.iter().any(|it| !(1..=CAPACITY as i64).contains(it)) {
         return key.out_of_range(line);
     }
     Ok(numbers.iter().map(|&it| it as usize).collect())
@@ -191,9 +195,9 @@ fn read_lock(document: &Table) -> Result<(), Refusal> {
 }
 
 fn read_threads(document: &Table, cpus: i64, buffers: usize) -> Result<Vec<Thread>, Refusal> {
-    let key = Key::new("thread", "thread", "1 to 256 tables, each below a line [[thread]]");
+    let key = Key::new("thread", "thread", &format!("1 to {THREADS} tables, each below a line [[thread]]"));
     let (tables, line) = key.array(document, |item| matches!(item, Value::Table(_)))?;
-    if tables.is_empty() || tables.len() > MOST_THREADS {
+    if tables.is_empty() || tables.len() > THREADS {
         return key.out_of_range(line);
     }
     let tables = tables.iter().filter_map(|it| if let Value::Table(table) = it { Some(table) } else { None });
@@ -207,8 +211,8 @@ fn read_thread(number: usize, table: &Table, cpus: i64, buffers: usize) -> Resul
     let (items, line) = key.array(table, |item| matches!(item, Value::Text(_)))?;
     let lines: Vec<String> = items.iter().filter_map(|it| if let Value::Text(text) = it { Some(text.clone()) } else { None }).collect();
     if lines.is_empty() || lines.len() > MOST_LINES {
-        let fault = if lines.is_empty() { "line 0 Empty(15)" } else { "line 256 TooLong(14)" };
-        return refuse(format!("Guest(23) thread {number} {fault}"), Some(line), "a program has 1 to 256 lines".to_string());
+        let fault = if lines.is_empty() { "line 0 Empty(15)".to_string() } else { format!("line {MOST_LINES} TooLong(14)") };
+        return refuse(format!("Guest(23) thread {number} {fault}"), Some(line), format!("a program has 1 to {MOST_LINES} lines"));
     }
     let mut program = Vec::with_capacity(lines.len());
     for (i, text) in lines.iter().enumerate() {
@@ -245,7 +249,7 @@ fn number(piece: &str, least: u64, most: u64) -> Result<u64, Faulty> {
 }
 
 fn buffer(piece: &str) -> Result<usize, Faulty> {
-    number(piece, 0, MOST_BUFFERS as u64 - 1).map(|it| it as usize)
+    number(piece, 0, BUFFERS as u64 - 1).map(|it| it as usize)
 }
 
 fn target(piece: &str, lines: usize) -> Result<usize, Faulty> {

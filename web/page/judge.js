@@ -1,8 +1,11 @@
 "use strict";
-// Judges a trace text line by line, as `mctower check` does, to say what is wanted where the program says no: what plans/judging.py does. It decides
+// Judges a trace text line by line, as `mctower check` does, to say what is expected where the program says no: what plans/judging.py does. It decides
 // nothing: its words are shown where the proved program names the same line for the same reason.
 
-const TRACE_MOST = { buffers: 16, capacity: 32, cpus: 16, threads: 256, entries: 1048576, words: 8 };
+const MOST_WORDS = 8; // fixed by the format
+const TRACE_MOST = {
+  buffers: LIMITS.BUFFERS, capacity: LIMITS.CAPACITY, cpus: LIMITS.CPUS, threads: LIMITS.THREADS, entries: LIMITS.ENTRIES, words: MOST_WORDS,
+};
 const TRACE_HEADS = ["mctower-trace 1", "mctower-trace 2", "mctower-trace 3"];
 // Each kind of entry, by how it counts; whether its value is a message; and those of the first version.
 const ENTRY_GROUPS = { send: "sends", sendc: "sends", recv: "receives", recvc: "receives", close: "closes" };
@@ -27,25 +30,25 @@ const isBelow = (digits, bound) => NUMBER.test(digits) && BigInt(digits) < bound
 // The numbers that pieces spell: `wanted` has of each its name, the least and the bound that it is below.
 function numbersOf(pieces, wanted) {
   pieces.forEach((piece, i) => {
-    if (!NUMBER.test(piece)) throw misspelled(`"${shownPiece(piece)}" is no number: wanted the ${wanted[i][0]}, in digits without a leading zero`);
+    if (!NUMBER.test(piece)) throw misspelled(`"${shownPiece(piece)}" is not a number: expected the ${wanted[i][0]}, in digits without a leading zero`);
   });
   pieces.forEach((piece, i) => {
     const [name, least, bound] = wanted[i], isWithin = isBelow(piece, BigInt(bound)) && Number(piece) >= least;
-    if (!isWithin) throw new TraceFault("Range", `the ${name} is ${shownPiece(piece)}: wanted ${least} to ${bound - 1}`);
+    if (!isWithin) throw new TraceFault("Range", `the ${name} is ${shownPiece(piece)}: expected ${least} to ${bound - 1}`);
   });
   return pieces.map(Number);
 }
 
 function piecesOf(line, names) {
   const pieces = line.split(" ");
-  if (pieces.length !== names.length) throw misspelled(`the line has ${pieces.length} pieces: wanted ${names.join(" ")}, with one space between two`);
+  if (pieces.length !== names.length) throw misspelled(`the line has ${pieces.length} words: expected ${names.join(" ")}, with one space between two`);
   return pieces;
 }
 
 // Refuses a line that does not begin with these words.
 function holdToWords(pieces, words) {
   words.forEach((word, i) => {
-    if (pieces[i] !== word) throw misspelled(`"${shownPiece(pieces[i])}" stands where ${word} is wanted`);
+    if (pieces[i] !== word) throw misspelled(`expected ${word}, but found "${shownPiece(pieces[i])}"`);
   });
 }
 
@@ -65,9 +68,9 @@ class Contents {
   // What an entry does, or why it may not stand here.
   takeEffect(b, kind, value, op, pos) {
     const group = ENTRY_GROUPS[kind], due = this.counts[group], number = what => `the number of ${what} of buffer ${b} before it`;
-    const missing = `the op is ${op}: wanted ${this.effects}, ${number("entries")}. Is one missing, or out of its place?`;
+    const missing = `the op is ${op}: expected ${this.effects}, ${number("entries")}. Is one missing, or out of its place?`;
     if (op !== this.effects) throw new TraceFault("Op", missing);
-    if (pos !== due) throw new TraceFault("Pos", `the pos is ${pos}: wanted ${due}, ${number(group)}`);
+    if (pos !== due) throw new TraceFault("Pos", `the pos is ${pos}: expected ${due}, ${number(group)}`);
     if (kind === "send" && this.isClosed) throw new TraceFault("CloseState", `buffer ${b} is closed: a send finds that as sendc`);
     if (kind.endsWith("c") && !this.isClosed) throw new TraceFault("CloseState", `no close of buffer ${b} stands before it`);
     if (kind === "send") this.put(b, value);
@@ -101,7 +104,7 @@ class Judge {
   }
 
   head(line) {
-    const wanted = line.startsWith("mctower-trace ") ? "the versions 1 to 3 are known" : "wanted mctower-trace and a version";
+    const wanted = line.startsWith("mctower-trace ") ? "expected a version from 1 to 3" : "expected mctower-trace and a version";
     if (!TRACE_HEADS.includes(line)) throw misspelled(`the head is "${shownPiece(line)}": ${wanted}`);
     this.version = TRACE_HEADS.indexOf(line) + 1;
     this.expect(this.bufferCount, "buffers n");
@@ -132,7 +135,7 @@ class Judge {
     const [, cpu, thread, kind, buffer, value, op, pos] = piecesOf(line, ["e", "cpu", "thread", "kind", "buffer", "value", "op", "pos"]);
     this.holdToKind(kind);
     if (HAS_MESSAGE[kind]) this.holdToMessage(value);
-    else if (value !== "-") throw misspelled(`the value of ${kind} is "${shownPiece(value)}": wanted -`);
+    else if (value !== "-") throw misspelled(`the value of ${kind} is "${shownPiece(value)}": expected -`);
     const { cpus, threads, entries } = TRACE_MOST;
     const bounds = [["CPU", 0, cpus], ["thread", 0, threads], ["buffer", 0, this.count], ["op", 0, entries], ["pos", 0, entries]];
     const [, , b, number, position] = numbersOf([cpu, thread, buffer, op, pos], bounds);
@@ -151,24 +154,24 @@ class Judge {
   holdToMessage(value) {
     if (value.includes(",") && this.version < 3) throw misspelled(`${shownPiece(value)} is a message of several words: it needs the head mctower-trace 3`);
     const strange = value.split(",").find(word => !NUMBER.test(word));
-    if (strange !== undefined) throw misspelled(`"${shownPiece(strange)}" is no word of a message: wanted a number, in digits without a leading zero`);
+    if (strange !== undefined) throw misspelled(`"${shownPiece(strange)}" is not a word of a message: expected a number, in digits without a leading zero`);
   }
 
   contents(line) {
     this.want = this.contents;
     const [word, number, ...values] = line.split(" "), hint = word === "e" ? " (an entry stands in front of all left lines)" : "";
-    if (word !== "left" || number !== String(this.left)) throw misspelled(`"${shownPiece(line)}" stands where left ${this.left} is wanted${hint}`);
+    if (word !== "left" || number !== String(this.left)) throw misspelled(`expected left ${this.left}, but found "${shownPiece(line)}"${hint}`);
     values.forEach(value => this.holdToMessage(value));
     values.forEach(holdToRange);
     const { items } = this.buffers[this.left];
-    if (values.join(" ") !== items.join(" ")) throw new TraceFault("Left", `wanted ${["left", this.left, ...items].join(" ")}, what the entries leave`);
+    if (values.join(" ") !== items.join(" ")) throw new TraceFault("Left", `expected ${["left", this.left, ...items].join(" ")}, what the entries leave`);
     this.left++;
     this.wanted = `left ${this.left}`;
     if (this.left === this.count) this.expect(this.end, "end");
   }
 
   end(line) {
-    if (line !== "end") throw misspelled(`"${shownPiece(line)}" stands where end is wanted`);
+    if (line !== "end") throw misspelled(`expected end, but found "${shownPiece(line)}"`);
     const [is, can] = [TRACE_HEADS[this.version - 1], TRACE_HEADS[this.lowest - 1]];
     if (this.lowest < this.version) throw new TraceFault("Version", `the head is ${is}, and ${can} can spell this text: that has to be the head`);
     this.expect(null, "");
@@ -179,9 +182,9 @@ class Judge {
     if (this.want === null) {
       if (!isLast || line) throw misspelled("nothing may follow the line end");
     } else if (isLast) {
-      throw misspelled(line ? `the line does not end with a line feed: ${shownPiece(line)}` : `the text ends where ${this.wanted} is wanted`);
+      throw misspelled(line ? `the line does not end with a line feed: ${shownPiece(line)}` : `expected ${this.wanted}, but the text ends`);
     } else if (line.endsWith("\r")) {
-      throw misspelled("the line ends with a carriage return: wanted a line feed alone, as files of Unix have it");
+      throw misspelled("the line ends with a carriage return: expected only a line feed, as in files of Unix");
     } else this.want(line);
   }
 }

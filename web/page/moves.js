@@ -80,7 +80,7 @@ class Moves {
   take(row, c, meeting) {
     const { pieces } = this, lockPlace = this.lockPlaces[meeting], kernel = pieces.loadFor(row, c, lockPlace), cpu = kernel.cpus[c], at = MOVE * this.count++;
     const { thread } = pieces.says[row[c]], lock = pieces.locks[lockPlace - pieces.locksAt], before = kernel.blocks.get(lock), [, part] = kernel.step(c);
-    if (at === this.table.length) this.table = this.memory.longer(this.table);
+    if (at === this.table.length) this.table = this.memory.longer(this.table, Math.ceil(GROWTH * this.count) * MOVE);
     this.table[at] = -1;
     if (part === "misses" || part === "") return;
     while (this.bySections && cpu.section !== null) kernel.step(c);
@@ -88,16 +88,22 @@ class Moves {
     if (kernel.entry !== null && !pieces.isEndless) this.entries.set(this.count - 1, kernel.entry);
     const threadAt = thread < 0 ? -1 : pieces.guestsAt + thread, [cpus, guests] = this.lefts[meeting], from = this.othersEnd;
     this.takeOthers(thread);
-    const left = [this.left(c, cpus), this.left(threadAt, guests), lockPlace < 0 ? -1 : pieces.numberOf(lockPlace)];
-    this.table.set([...left, threadAt, lockPlace, from, this.othersEnd], at);
-    const isSection = this.bySections && part === "draws";
-    this.table[at + MARKS] = effects | (this.isKeeping(at, row, c) ? IS_KEEPING : 0) | (isSection ? IS_SECTION : 0);
+    const { table } = this, isSection = this.bySections && part === "draws";
+    table[at + OF_CPU] = this.left(c, cpus);
+    table[at + OF_THREAD] = this.left(threadAt, guests);
+    table[at + OF_LOCK] = lockPlace < 0 ? -1 : pieces.numberOf(lockPlace);
+    table[at + THREAD_AT] = threadAt;
+    table[at + LOCK_AT] = lockPlace;
+    table[at + OTHERS_FROM] = from;
+    table[at + OTHERS_TO] = this.othersEnd;
+    table[at + MARKS] = effects | (this.isKeeping(at, row, c) ? IS_KEEPING : 0) | (isSection ? IS_SECTION : 0);
   }
 
   // The piece that a move left at a place. Moves of the same CPU's piece and thread's often leave the same, so these are compared first.
   left(place, lately) {
-    const { pieces } = this, known = place < 0 ? -1 : lately.find(number => pieces.hasAt(place, number));
-    if (known !== undefined) return known;
+    if (place < 0) return -1;
+    const { pieces } = this;
+    for (let i = 0; i < lately.length; i++) if (pieces.hasAt(place, lately[i])) return lately[i];
     const number = pieces.numberOf(place);
     if (lately.length < MOST_LATELY && !lately.includes(number)) lately.push(number);
     return number;
@@ -156,19 +162,36 @@ class Moves {
   // Whether the laws on states hold behind a move where they hold before it, if they do of the threads that it only moved: its three pieces have the same
   // threads as before and break no law, and who works on a buffer is its owner. A former owner is one of these threads, or the buffer's owner still.
   isKeeping(at, row, c) {
-    const { says, locksAt, guestsAt, owners, threads, brokens } = this.pieces, { table, counts } = this, threadAt = table[at + THREAD_AT], lockAt = table[at + LOCK_AT];
-    [c, threadAt, lockAt].forEach((place, i) => {
-      if (place >= 0) countThreads(threads[row[place]], counts, 1);
-      if (place >= 0) countThreads(threads[table[at + i]], counts, -1);
-    });
-    if (counts.some(count => count !== 0)) {
-      counts.fill(0);
-      return false;
-    }
+    const { says, locksAt, guestsAt, owners } = this.pieces, { table } = this, threadAt = table[at + THREAD_AT], lockAt = table[at + LOCK_AT];
+    const broken = this.brokenAt(OF_CPU, at, row, c) | this.brokenAt(OF_THREAD, at, row, threadAt) | this.brokenAt(OF_LOCK, at, row, lockAt);
+    if (!this.areEven() || broken !== 0) return false;
     const thread = threadAt - guestsAt, lock = lockAt - locksAt, works = threadAt < 0 ? -1 : says[table[at + OF_THREAD]].works;
-    const [former, owner] = lockAt < 0 ? [-1, -1] : [owners[row[lockAt]], owners[table[at + OF_LOCK]]];
-    const isOwner = works < 0 || (works === lock ? owner === thread : works === says[row[threadAt]].works), isKept = i => table[at + i] < 0 || brokens[table[at + i]] === 0;
-    return [OF_CPU, OF_THREAD, OF_LOCK].every(isKept) && isOwner && (former === owner || former < 0 || former === thread || this.isOther(at, former + guestsAt));
+    const former = lockAt < 0 ? -1 : owners[row[lockAt]], owner = lockAt < 0 ? -1 : owners[table[at + OF_LOCK]];
+    const isOwner = works < 0 || (works === lock ? owner === thread : works === says[row[threadAt]].works);
+    return isOwner && (former === owner || former < 0 || former === thread || this.isOther(at, former + guestsAt));
+  }
+
+  // The laws that the piece of a place breaks behind a move. Its threads are counted, those before the move against those behind it.
+  brokenAt(of, at, row, place) {
+    if (place < 0) return 0;
+    const { threads, brokens } = this.pieces, before = threads[row[place]], behind = threads[this.table[at + of]];
+    if (before !== behind) {
+      this.countThreads(before, 1);
+      this.countThreads(behind, -1);
+    }
+    return brokens[this.table[at + of]];
+  }
+
+  // Counts threads, each of which is a letter.
+  countThreads(threads, by) {
+    for (let i = 0; i < threads.length; i++) this.counts[threads.charCodeAt(i)] += by;
+  }
+
+  // Whether each thread was counted as often before as behind; the counts begin anew.
+  areEven() {
+    const isEven = this.counts.every(count => count === 0);
+    if (!isEven) this.counts.fill(0);
+    return isEven;
   }
 
   // Whether a move only moves the thread of a place.
@@ -195,11 +218,6 @@ class Moves {
     }
     return true;
   }
-}
-
-// Counts threads, each of which is a letter.
-function countThreads(threads, counts, by) {
-  for (let i = 0; i < threads.length; i++) counts[threads.charCodeAt(i)] += by;
 }
 
 // The laws on effects that the edit of a buffer's block breaks, where they held before it, and whether what the buffer holds is changed, as marks.

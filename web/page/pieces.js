@@ -3,7 +3,9 @@
 // the piece says of the laws. A lock is kept as its block and who stands in its line, so that two states which differ only in how often a lock was taken are one.
 // A row has the numbers of a state's pieces, one for each place.
 
-const PIECE_BYTES = 1000, LOCK_BYTES = 200; // about what a piece takes beside its text: of a CPU, a thread or a trace; of a lock
+// about what a piece takes beside its text: of a CPU, a thread or a trace; of a lock; and what a list takes
+const PIECE_BYTES = 1000, LOCK_BYTES = 120, LIST_BYTES = 120;
+const LOCK_ROW = 13; // numbers of a lock's row
 const UNSET = ""; // the place of a thread that has none yet
 const AFTER_EFFECT = ["Other", "Own", "RelQ", "Returns"]; // the stages of a call that has taken effect and not returned
 const LAW_BITS = new Map([...LAWS.keys()].map((law, i) => [law, 1 << i]));
@@ -18,11 +20,14 @@ const EFFECT_BITS = BIT.lost | BIT.order | BIT.answer | BIT.grows, STATE_BITS = 
 
 const listText = list => (list.length === 0 ? "" : list.length === 1 ? `${list[0]}` : list.join());
 
-function blockText(block) {
+const itemsText = items => (items.length === 0 ? "" : items.map(spelledMessage).join(" "));
+
+// A block as a text, perhaps without what no step reads.
+function blockText(block, isEndless) {
   if (block instanceof PendingBlock) return listText(block.threads);
-  const { owner, items, effects, sleepers, waiting, line, positions, closed, closes } = block, held = items.map(spelledMessage).join(" ");
+  const { owner, items, effects, sleepers, waiting, line, positions, closed, closes } = block, history = isEndless ? "" : `${effects};${positions};${closes}`;
   const lists = `${listText(sleepers)};${listText(waiting[0])};${listText(waiting[1])};${listText(line[0])};${listText(line[1])}`;
-  return `${owner};${held};${lists};${effects};${positions[0]};${positions[1]};${closed};${closes}`;
+  return `${owner};${itemsText(items)};${lists};${closed};${history}`;
 }
 
 function isSameList(list, other) {
@@ -34,25 +39,30 @@ function isSameList(list, other) {
 const isSameCpu = ({ current, hand, ready, begun, section }, known) => section === null && known.section === null && current === known.current
   && hand === known.hand && begun === known.begun && isSameList(ready, known.ready);
 
-const numbersIn = text => (text === "" ? [] : text.split(",").map(Number));
+// Lists by their numbers: equal ones have one. A list is a pair of the list before its last member, and that member's number; the empty one is 0.
+class Lists {
+  // `numberOf` and `memberOf` say what number a member has, and which member has a number.
+  constructor(memory, numberOf = member => member, memberOf = number => number) {
+    Object.assign(this, { memory, numberOf, memberOf, nodes: new Pairs(memory), lists: new Map([[0, []]]) });
+  }
 
-// The block of a text.
-function bufferIn(text, capacity) {
-  const block = new BufferBlock(capacity), [owner, held, sleepers, receivers, senders, receive, send, effects, received, sent, closed, closes] = text.split(";");
-  block.owner = owner === "null" ? null : Number(owner);
-  if (held !== "") block.items = held.split(" ").map(words => (words === "-" ? [] : words.split(",").map(BigInt)));
-  [block.sleepers, ...block.waiting] = [sleepers, receivers, senders].map(numbersIn);
-  block.line = [receive, send].map(numbersIn);
-  [block.effects, ...block.positions] = [effects, received, sent].map(Number);
-  block.closed = closed === "true";
-  block.closes = Number(closes);
-  return block;
-}
+  number(list) {
+    let number = 0;
+    for (let i = 0; i < list.length; i++) number = 1 + this.nodes.number(number, this.numberOf(list[i]));
+    return number;
+  }
 
-// A buffer's block without what no step reads.
-function withoutHistory(block) {
-  if (block instanceof PendingBlock || (block.effects === 0 && block.closes === 0 && block.positions[0] === 0 && block.positions[1] === 0)) return block;
-  return Object.assign(block.copied(), { effects: 0, positions: [0, 0], closes: 0 });
+  // The list of a number. It is made once, and nobody changes it.
+  list(number) {
+    return this.lists.get(number) ?? this.made(number);
+  }
+
+  made(number) {
+    const { keys } = this.nodes, list = [...this.list(keys[2 * number - 2]), this.memberOf(keys[2 * number - 1])].slice();
+    this.memory.take(LIST_BYTES + 8 * list.length);
+    this.lists.set(number, list);
+    return list;
+  }
 }
 
 // What a piece says of the laws and of the next step: the threads that stand in it and the laws broken there; of a CPU the lock that it is inside of; of a
@@ -92,25 +102,84 @@ class Pieces {
     const locks = [...kernel.blocks.keys()], locksAt = cpus + guests, tracesAt = locksAt + locks.length;
     Object.assign(this, { kernel, isEndless, locks, guestsAt: cpus, locksAt, tracesAt, count: tracesAt + (isEndless ? 0 : cpus) });
     this.hasCopies = wrong === "look-always-hits"; // then a CPU inside has a copy of its own; else the block is nobody else's
-    // of each piece: its number by its text, what is put again of it (of a lock its text), and what it says; threads are letters, since most pieces are locks
-    Object.assign(this, { memory, numbers: new Map(), kept: [], says: [], threads: [], brokens: [], owners: [], loaded: new Int32Array(this.count).fill(-1) });
+    const words = new Lists(memory, word => this.wordNumber(word), number => this.words[number]);
+    const items = new Lists(memory, message => words.number(message), number => words.list(number));
+    Object.assign(this, { memory, words: [], wordNumbers: new Map(), items, lists: new Lists(memory) });
+    // of each piece: its number by its text, of a lock by its row; what is put again of it, of a lock its row's number; what it says. Threads are letters, since
+    // most pieces are locks
+    Object.assign(this, { numbers: new Map(), lockRows: new Rows(memory, LOCK_ROW), lockNumbers: [], lockRow: new Int32Array(LOCK_ROW) });
+    Object.assign(this, { kept: [], says: [], threads: [], brokens: [], owners: [], loaded: new Int32Array(this.count).fill(-1) });
   }
 
   // ---- from the kernel to numbers
 
   // The number of what the kernel has at a place.
   numberOf(place) {
+    if (place >= this.locksAt && place < this.tracesAt) return this.lockNumber(place);
     const text = this.textAt(place), known = this.numbers.get(text);
     if (known !== undefined) return known;
-    const isLock = place >= this.locksAt && place < this.tracesAt, said = this.saysOf(place);
-    this.memory.take((isLock ? LOCK_BYTES : PIECE_BYTES) + text.length);
+    this.memory.take(PIECE_BYTES + text.length);
     this.numbers.set(text, this.kept.length);
-    this.kept.push(isLock ? text : this.keptAt(place));
-    this.says.push(isLock ? SILENT : said);
+    return this.add(this.keptAt(place), this.saysOf(place));
+  }
+
+  lockNumber(place) {
+    const { lockRows, lockNumbers, locks, locksAt } = this, next = lockRows.count, number = lockRows.number(this.rowOfLock(place, locks[place - locksAt]));
+    if (number < next) return lockNumbers[number];
+    this.memory.take(LOCK_BYTES);
+    lockNumbers.push(this.add(number, this.saysOf(place), SILENT));
+    return lockNumbers[number];
+  }
+
+  // Keeps a new piece. A lock says nothing beside its threads, the laws and its owner.
+  add(kept, said, rest = said) {
+    this.says.push(rest);
     this.threads.push(String.fromCharCode(...said.threads));
     this.brokens.push(said.broken);
     this.owners.push(said.owner);
-    return this.kept.length - 1;
+    return this.kept.push(kept) - 1;
+  }
+
+  // What the kernel has of a lock, as numbers: who stands in its line, and its block.
+  rowOfLock(place, lock) {
+    const { lists, lockRow, isEndless } = this, block = this.kernel.blocks.get(lock);
+    lockRow.fill(0);
+    lockRow[0] = place;
+    lockRow[1] = lists.number(this.lineOf(lock));
+    if (block instanceof PendingBlock) {
+      lockRow[2] = lists.number(block.threads);
+      return lockRow;
+    }
+    const { owner, items, sleepers, waiting, line, closed, effects, positions, closes } = block;
+    lockRow[2] = 2 * (owner === null ? 0 : owner + 1) + (closed ? 1 : 0);
+    lockRow[3] = this.items.number(items);
+    lockRow[4] = lists.number(sleepers);
+    for (const side of [RECEIVERS, SENDERS]) {
+      lockRow[5 + side] = lists.number(waiting[side]);
+      lockRow[7 + side] = lists.number(line[side]);
+      lockRow[9 + side] = isEndless ? 0 : positions[side];
+    }
+    lockRow[11] = isEndless ? 0 : effects;
+    lockRow[12] = isEndless ? 0 : closes;
+    return lockRow;
+  }
+
+  // The block of a lock's row.
+  blockIn(at, before) {
+    const { lists, items, lockRows: { keys } } = this;
+    if (before instanceof PendingBlock) return new PendingBlock(lists.list(keys[at + 2]));
+    const owner = (keys[at + 2] >> 1) - 1, pairOf = (place, of) => [of(keys[at + place]), of(keys[at + place + 1])], list = number => lists.list(number);
+    return new BufferBlock(before.capacity, {
+      owner: owner < 0 ? null : owner, closed: keys[at + 2] % 2 === 1, items: items.list(keys[at + 3]), sleepers: lists.list(keys[at + 4]),
+      waiting: pairOf(5, list), line: pairOf(7, list), positions: pairOf(9, Number), effects: keys[at + 11], closes: keys[at + 12],
+    });
+  }
+
+  // The number of a word of a message.
+  wordNumber(word) {
+    const { words, wordNumbers } = this;
+    if (!wordNumbers.has(word)) wordNumbers.set(word, words.push(word) - 1);
+    return wordNumbers.get(word);
   }
 
   // Whether the kernel has a piece at the place of a CPU between its sections or of a thread.
@@ -133,11 +202,11 @@ class Pieces {
     if (place < locksAt) return `${place}:${this.guestText(kernel.guests[place - guestsAt])}`;
     if (place >= tracesAt) return `${place}:${kernel.cpus[place - tracesAt].trace.join(";")}`;
     const lock = this.locks[place - locksAt], block = kernel.blocks.get(lock);
-    return `${place}:${blockText(this.isEndless ? withoutHistory(block) : block)}:${this.lineText(lock)}`;
+    return `${place}:${blockText(block, this.isEndless)}:${listText(this.lineOf(lock))}`;
   }
 
   cpuText({ current, hand, ready, begun, section, block }) {
-    const inside = block === null ? "" : `inside ${this.hasCopies ? blockText(block) : ""}`;
+    const inside = block === null ? "" : `inside ${this.hasCopies ? blockText(block, false) : ""}`;
     return `${current};${hand};${listText(ready)};${begun};${section?.name};${section?.lock};${inside}`;
   }
 
@@ -151,10 +220,10 @@ class Pieces {
   }
 
   // The CPUs in the line of a lock.
-  lineText(lock) {
+  lineOf(lock) {
     const { cpus } = this.kernel, at = [];
-    for (let c = 0; c < cpus.length; c++) if (cpus[c].section !== null && cpus[c].section.lock === lock) at.push([cpus[c].ticket, c]);
-    return at.length === 0 ? "" : `${at.sort((x, y) => x[0] - y[0]).map(([, c]) => c)}`;
+    for (let c = 0; c < cpus.length; c++) if (cpus[c].section !== null && cpus[c].section.lock === lock) at.push(c);
+    return at.length < 2 ? at : at.sort((c, other) => cpus[c].ticket - cpus[other].ticket);
   }
 
   // What the kernel has at the place of a CPU, a thread or a trace, to be put again.
@@ -195,12 +264,18 @@ class Pieces {
 
   // Makes the kernel's what a move of a CPU may read of a row: all CPUs, its thread, its trace and a lock. Other threads have no place then.
   loadFor(row, c, lockPlace) {
-    const { kernel, kept, guestsAt } = this, { thread } = this.says[row[c]], trace = this.isEndless ? -1 : this.tracesAt + c;
+    const { kernel, guestsAt } = this, { guests } = kernel, { thread } = this.says[row[c]];
     this.loaded.fill(-1);
-    for (const guest of kernel.guests) guest.place = UNSET;
-    for (const place of [trace, lockPlace, thread < 0 ? -1 : guestsAt + thread]) if (place >= 0) this.put(place, kept[row[place]]);
-    for (let cpu = 0; cpu < guestsAt; cpu++) this.put(cpu, kept[row[cpu]]);
+    for (let t = 0; t < guests.length; t++) guests[t].place = UNSET;
+    if (!this.isEndless) this.putAgain(this.tracesAt + c, row);
+    if (lockPlace >= 0) this.putAgain(lockPlace, row);
+    if (thread >= 0) this.putAgain(guestsAt + thread, row);
+    for (let cpu = 0; cpu < guestsAt; cpu++) this.putAgain(cpu, row);
     return kernel;
+  }
+
+  putAgain(place, row) {
+    this.put(place, this.kept[row[place]]);
   }
 
   // Reads from another kernel from here on.
@@ -214,15 +289,25 @@ class Pieces {
     const { kernel } = this;
     if (place >= this.tracesAt) kernel.cpus[place - this.tracesAt].trace = kept;
     else if (place >= this.locksAt) this.putLock(this.locks[place - this.locksAt], kept);
-    else if (place >= this.guestsAt) Object.assign(kernel.guests[place - this.guestsAt], kept, { registers: [...kept.registers] });
+    else if (place >= this.guestsAt) this.putGuest(kernel.guests[place - this.guestsAt], kept);
     else this.putCpu(kernel.cpus[place], kept);
   }
 
-  putLock(lock, text) {
-    const [, held, inLine] = text.split(":"), line = numbersIn(inLine), before = this.kernel.blocks.get(lock);
-    this.kernel.blocks.set(lock, before instanceof PendingBlock ? Object.assign(new PendingBlock(), { threads: numbersIn(held) }) : bufferIn(held, before.capacity));
-    this.kernel.words.set(lock, { next: line.length, serving: 0 });
-    line.forEach((c, ticket) => { this.kernel.cpus[c].ticket = ticket; });
+  putGuest(guest, { line, registers, stage, position, effect, place }) {
+    guest.line = line;
+    guest.registers = [...registers];
+    guest.stage = stage;
+    guest.position = position;
+    guest.effect = effect;
+    guest.place = place;
+  }
+
+  putLock(lock, number) {
+    const { blocks, words, cpus } = this.kernel, at = LOCK_ROW * number, line = this.lists.list(this.lockRows.keys[at + 1]), word = words.get(lock);
+    blocks.set(lock, this.blockIn(at, blocks.get(lock)));
+    word.next = line.length;
+    word.serving = 0;
+    for (let ticket = 0; ticket < line.length; ticket++) cpus[line[ticket]].ticket = ticket;
   }
 
   putCpu(cpu, { current, hand, ready, begun, section, isInside, copy }) {

@@ -1,7 +1,7 @@
 "use strict";
 // Schedules: which CPU takes each step. `0*13,1` is 13 steps of CPU 0 and then one of CPU 1.
 
-const MOST_SCHEDULED = 1048576, MOST_CPU_NAMED = 255;
+const MOST_SCHEDULED = 1048576, MOST_CPU_NAMED = 255; // fixed by the format
 const NUMBER = /^(0|[1-9][0-9]*)$/;
 
 // One item: its CPU and how often it steps, or what is wrong with it.

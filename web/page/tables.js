@@ -132,9 +132,13 @@ class Rows extends Numbered {
   }
 
   add(row, hash) {
-    if (this.keys.BYTES_PER_ELEMENT === 2 && row.some(number => number > 0xffff)) this.widen();
+    const { width } = this;
+    let bits = 0;
+    for (let i = 0; i < width; i++) bits |= row[i];
+    if (bits > 0xffff && this.keys.BYTES_PER_ELEMENT === 2) this.widen();
     if (this.isFull()) this.grow();
-    for (let i = 0, at = this.width * this.count; i < this.width; i++) this.keys[at + i] = row[i];
+    const { keys } = this;
+    for (let i = 0, at = width * this.count; i < width; i++) keys[at + i] = row[i];
     this.enter(this.count, hash);
     return this.count++;
   }
@@ -168,7 +172,7 @@ class Cache {
     if (entries.length === CACHED * room) return;
     memory.take(4 * CACHED * room - entries.byteLength);
     Object.assign(this, { entries: memory.made(Int32Array, CACHED * room).fill(-1), mask: room - 1 });
-    for (let at = 0; at < entries.length; at += CACHED) if (entries[at] >= 0) this.keep(...entries.subarray(at, at + CACHED));
+    for (let at = 0; at < entries.length; at += CACHED) if (entries[at] >= 0) this.keep(entries[at], entries[at + 1], entries[at + 2], entries[at + 3]);
   }
 
   // Where the entry of a pair is, if it is kept.
@@ -182,10 +186,13 @@ class Cache {
   }
 
   // Keeps an entry in its first place, and in the second what was there. Returns where it is.
-  keep(one, other, ...numbers) {
-    const at = CACHED * (mixed(one, other) & this.mask);
-    this.entries.copyWithin(at ^ CACHED, at, at + CACHED);
-    [one, other, ...numbers].forEach((number, i) => { this.entries[at + i] = number; });
+  keep(one, other, first, second) {
+    const { entries, mask } = this, at = CACHED * (mixed(one, other) & mask), behind = at ^ CACHED;
+    for (let i = 0; i < CACHED; i++) entries[behind + i] = entries[at + i];
+    entries[at] = one;
+    entries[at + 1] = other;
+    entries[at + 2] = first;
+    entries[at + 3] = second;
     return at;
   }
 }

@@ -9,9 +9,16 @@ const REGISTERS = 8, WORD_LIMIT = 2n ** 64n;
 
 const spelledMessage = words => words.join(",") || "-";
 const isEnded = guest => guest.place === "Ended";
+const replaced = (pair, side, one) => (side === RECEIVERS ? [one, pair[SENDERS]] : [pair[RECEIVERS], one]);
 function without(list, one) {
   const at = list.indexOf(one);
   return at < 0 ? list : [...list.slice(0, at), ...list.slice(at + 1)];
+}
+
+// The buffer and the side of an instruction that is a call, or null. A close signals as a send does.
+function callOf([word, buffer]) {
+  const side = CALL_SIDES[word];
+  return side === undefined ? null : { buffer: Number(buffer), side };
 }
 
 // A guest thread: its program, its line, its registers, the stage of its call, and its place.
@@ -19,6 +26,7 @@ class Guest {
   constructor({ cpu, program }) {
     this.home = cpu;
     this.program = program.map(line => line.split(" "));
+    this.calls = this.program.map(callOf);
     Object.assign(this, { line: 0, registers: Array(REGISTERS).fill(0n), stage: null, position: 0, effect: null, place: `Ready(${cpu})` });
   }
 
@@ -26,10 +34,9 @@ class Guest {
     return this.program[this.line] ?? ["exit"];
   }
 
-  // The buffer and the side of the call at which the thread stands, or null. A close signals as a send does.
+  // The buffer and the side of the call at which the thread stands, or null.
   call() {
-    const [word, buffer] = this.instruction(), side = CALL_SIDES[word];
-    return side === undefined ? null : { buffer: Number(buffer), side };
+    return this.calls[this.line] ?? null;
   }
 
   // The words that the send at which the thread stands offers.
@@ -49,16 +56,24 @@ class Guest {
   }
 }
 
-// A buffer's block: what its lock guards. Lists are never changed in place, so a copy keeps its own.
+// A buffer's block: what its lock guards. Lists and pairs of both sides are never changed in place, so a copy keeps its own.
+const AT_BOOT = { owner: null, items: [], effects: 0, sleepers: [], waiting: [[], []], line: [[], []], positions: [0, 0], closed: false, closes: 0 };
 class BufferBlock {
-  constructor(capacity) {
-    Object.assign(this, { capacity, owner: null, items: [], effects: 0, sleepers: [], waiting: [[], []], line: [[], []], positions: [0, 0], closed: false, closes: 0 });
+  constructor(capacity, { owner, items, effects, sleepers, waiting, line, positions, closed, closes } = AT_BOOT) {
+    this.capacity = capacity;
+    this.owner = owner;
+    this.items = items;
+    this.effects = effects;
+    this.sleepers = sleepers;
+    this.waiting = waiting;
+    this.line = line;
+    this.positions = positions;
+    this.closed = closed;
+    this.closes = closes;
   }
 
   copied() {
-    const copy = Object.assign(new BufferBlock(this.capacity), this);
-    for (const name of ["waiting", "line", "positions"]) copy[name] = [...this[name]];
-    return copy;
+    return new BufferBlock(this.capacity, this);
   }
 
   mayGo(side) {
@@ -67,11 +82,28 @@ class BufferBlock {
 }
 
 class PendingBlock {
-  threads = [];
+  constructor(threads = []) {
+    this.threads = threads;
+  }
 
   copied() {
-    return Object.assign(new PendingBlock(), this);
+    return new PendingBlock(this.threads);
   }
+}
+
+// The sections of a call by its stages: of a receive, and of a send or a close.
+const STAGE_SECTIONS = {
+  AcqQ: ["AcqQ", "AcqQ"], Enter: ["Enter", "Enter"], Shut: ["Shut", "Shut"], Try: ["TryTake", "TryPut"], Wait: ["Wait", "Wait"], Join: ["Join", "Join"],
+  Again: ["AcqQ", "AcqQ"], Other: ["SigSend", "SigRecv"], Own: ["SigRecv", "SigSend"], RelQ: ["RelQ", "RelQ"], Returns: ["Returns", "Returns"],
+};
+
+// All sections of a plan, each with its name and its lock: of calls by buffer, stage and side; those that send a thread home by thread; drains and yields by CPU.
+function sectionsOf({ cpus, buffers, threads }) {
+  const ofStage = (names, b) => names.map(name => ({ name: `${name} ${b}`, lock: `buffer${b}` }));
+  const ofCalls = b => Object.fromEntries(Object.entries(STAGE_SECTIONS).map(([stage, names]) => [stage, ofStage(names, b)]));
+  const ofCpus = name => Array.from({ length: cpus }, (_, c) => ({ name, lock: `pending${c}` }));
+  const sends = threads.map(({ cpu }, t) => ({ name: `Pend t${t}`, lock: `pending${cpu}` }));
+  return { calls: buffers.map((_, b) => ofCalls(b)), sends, drains: ofCpus("Drain"), yields: ofCpus("Yield") };
 }
 
 // What one step of a CPU does, with the name of the section that it works in. It is built of a plan, and perhaps of a mistake that it makes.
@@ -86,6 +118,8 @@ class Kernel {
     this.words = new Map([...this.blocks.keys()].map(lock => [lock, { next: 0, serving: 0 }]));
     this.entry = null;
     this.guests.forEach((guest, t) => this.cpus[guest.home].ready.push(t));
+    this.homes = this.cpus.map((_, c) => this.guests.filter(guest => guest.home === c));
+    this.sections = sectionsOf(plan);
   }
 
   // Takes one step of a CPU, and tells its section and its part of it: "" where there is none.
@@ -107,48 +141,40 @@ class Kernel {
     return [name, "ends"];
   }
 
-  draw(cpu, name, lock) {
-    cpu.section = { name, lock };
-    cpu.ticket = this.words.get(lock).next++;
-    return [name, "draws"];
-  }
-
-  homeThreads(c) {
-    return this.guests.filter(guest => guest.home === c);
+  draw(cpu, section) {
+    cpu.section = section;
+    cpu.ticket = this.words.get(section.lock).next++;
+    return [section.name, "draws"];
   }
 
   // Why a CPU takes no step between its sections, or null.
   halted(c) {
     const cpu = this.cpus[c];
     if (cpu.section !== null || cpu.hand !== null) return null;
-    if (this.homeThreads(c).every(isEnded)) return "AllEnded";
+    if (this.homes[c].every(isEnded)) return "AllEnded";
     const guest = cpu.current === null ? null : this.guests[cpu.current];
     return guest?.call() && guest.stage === null && cpu.trace.length + cpu.begun === this.room ? "TraceFull" : null;
   }
 
   begin(c, cpu) {
-    if (cpu.hand !== null) return this.draw(cpu, `Pend t${cpu.hand}`, `pending${this.guests[cpu.hand].home}`);
+    const { calls, sends, drains, yields } = this.sections;
+    if (cpu.hand !== null) return this.draw(cpu, sends[cpu.hand]);
     if (this.halted(c)) return ["", ""];
-    if (cpu.current === null && cpu.ready.length === 0) return this.draw(cpu, "Drain", `pending${c}`);
+    if (cpu.current === null && cpu.ready.length === 0) return this.draw(cpu, drains[c]);
     if (cpu.current === null) return this.switchOver(c, cpu);
     const guest = this.guests[cpu.current], call = guest.call();
-    if (call === null) return guest.instruction()[0] === "yield" ? this.draw(cpu, "Yield", `pending${c}`) : this.compute(cpu, guest);
+    if (call === null) return guest.instruction()[0] === "yield" ? this.draw(cpu, yields[c]) : this.compute(cpu, guest);
     if (guest.stage === null) {
       guest.stage = "AcqQ";
       cpu.begun++;
     }
-    return this.draw(cpu, `${Kernel.sectionOf(guest.stage, call.side)} ${call.buffer}`, `buffer${call.buffer}`);
+    return this.draw(cpu, calls[call.buffer][guest.stage][call.side]);
   }
 
   switchOver(c, cpu) {
     [cpu.current, ...cpu.ready] = cpu.ready;
     this.guests[cpu.current].place = `Running(${c})`;
     return ["switch", "alone"];
-  }
-
-  static sectionOf(stage, side) {
-    const signals = ["SigRecv", "SigSend"];
-    return { Again: "AcqQ", Try: ["TryTake", "TryPut"][side], Other: signals[1 - side], Own: signals[side] }[stage] ?? stage;
   }
 
   compute(cpu, guest) {
@@ -223,8 +249,9 @@ class Kernel {
 
   enterLine(guest, t, buffer, side) {
     guest.stage = "Try";
-    guest.position = buffer.positions[side]++;
-    buffer.line[side] = [...buffer.line[side], t];
+    guest.position = buffer.positions[side];
+    buffer.positions = replaced(buffer.positions, side, guest.position + 1);
+    buffer.line = replaced(buffer.line, side, [...buffer.line[side], t]);
   }
 
   wait(c, cpu, t, buffer, b, side) {
@@ -234,7 +261,7 @@ class Kernel {
       this.release(c, cpu, buffer);
       return;
     }
-    buffer.waiting[side] = [...buffer.waiting[side], t];
+    buffer.waiting = replaced(buffer.waiting, side, [...buffer.waiting[side], t]);
     guest.stage = "Again";
     Kernel.sleep(cpu, guest, `${["WaitRecv", "WaitSend"][side]}(${b})`);
     if (stage === "Wait") this.release(c, cpu, buffer);
@@ -257,7 +284,7 @@ class Kernel {
       guest.stage = "Wait";
       return;
     }
-    buffer.line[side] = without(buffer.line[side], t);
+    buffer.line = replaced(buffer.line, side, without(buffer.line[side], t));
     const { kind, message } = side === SENDERS ? this.put(guest, buffer) : this.taken(buffer);
     this.takeEffect(c, cpu, t, buffer, kind, message, guest.position);
     if ((kind === "sendc" || kind === "recvc") && this.wrong === "closed-signals-nobody") guest.stage = "RelQ";
@@ -318,14 +345,14 @@ class Kernel {
   signal(c, cpu, buffer, side) {
     const [first] = buffer.line[side];
     if (first === undefined || !buffer.waiting[side].includes(first) || !buffer.mayGo(side)) return;
-    buffer.waiting[side] = without(buffer.waiting[side], first);
+    buffer.waiting = replaced(buffer.waiting, side, without(buffer.waiting[side], first));
     this.wake(c, cpu, first);
   }
 
   rests(c) {
     const cpu = this.cpus[c];
     if (this.blocks.get(`pending${c}`).threads.length) return false;
-    if (this.halted(c)) return this.homeThreads(c).every(isEnded);
+    if (this.halted(c)) return this.homes[c].every(isEnded);
     return cpu.current === null && cpu.ready.length === 0 && cpu.hand === null && cpu.section === null;
   }
 

@@ -4,11 +4,12 @@
 // allowed there. What isn't known is left out.
 
 const PLAN_KEYS = {
-  cpus: "an integer from 1 to 16: how many CPUs there are", trace: "an integer from 1 to 65536: how many entries each CPU may trace",
-  buffers: "a list of 1 to 16 integers, each from 1 to 32: the capacities of the buffers", lock: 'the text "ticket" or "grant"; without the key it is "grant"',
-  thread: "1 to 256 tables [[thread]]",
+  cpus: `an integer from 1 to ${LIMITS.CPUS}: how many CPUs there are`, trace: `an integer from 1 to ${LIMITS.TRACE}: how many entries each CPU may trace`,
+  buffers: `a list of 1 to ${LIMITS.BUFFERS} integers, each from 1 to ${LIMITS.CAPACITY}: the capacities of the buffers`,
+  lock: 'the text "ticket" or "grant"; without the key it is "grant"', thread: `1 to ${LIMITS.THREADS} tables [[thread]]`,
 };
-const THREAD_KEYS = { cpu: "an integer from 0 to the number of CPUs less 1: the thread's home", program: "a list of 1 to 256 texts, an instruction each" };
+const MOST_LINES = 256; // fixed by the format
+const THREAD_KEYS = { cpu: "an integer from 0 to the number of CPUs less 1: the thread's home", program: `a list of 1 to ${MOST_LINES} texts, an instruction each` };
 
 // Each instruction: its pieces, of which the last may be left out if it has a question mark.
 const INSTRUCTIONS = {
@@ -16,14 +17,14 @@ const INSTRUCTIONS = {
   recvm: ["b", "k?"], close: ["b"], yield: [], exit: [],
 };
 const PIECES = {
-  r: "a register is r0 to r7", n: "a number is 0 to 18446744073709551615, in digits without a leading zero", b: "a buffer is a number from 0 to 15",
-  w: "a number of words is 1 to 8", k: "a target is a number, the line of an instruction of this program, counted from 0",
+  r: "a register is r0 to r7", n: "a number is 0 to 18446744073709551615, in digits without a leading zero", b: `a buffer is a number from 0 to ${LIMITS.BUFFERS - 1}`,
+  w: `a number of words is 1 to ${MOST_WORDS}`, k: "a target is a number, the line of an instruction of this program, counted from 0",
 };
-const PIECE_LIMITS = { n: [0n, 2n ** 64n - 1n], b: [0n, 15n], w: [1n, 8n] };
+const PIECE_LIMITS = { n: [0n, 2n ** 64n - 1n], b: [0n, BigInt(LIMITS.BUFFERS - 1)], w: [1n, BigInt(MOST_WORDS)] };
 
 const TRACE_REASONS = {
   Spelling: "the line is no spelling of a line that may stand here: single spaces, numbers without leading zeros, lines that end in a line feed",
-  Range: "a number is out of its range, a value has more than eight words, or there are more than 1,048,576 entries",
+  Range: `a number is out of its range, a value has more than eight words, or there are more than ${LIMITS.ENTRIES.toLocaleString("en")} entries`,
   Op: "op is not the number of entries of that buffer before it", Pos: "pos is not the number of entries of that buffer before it that are counted with its kind",
   CloseState: "a send on a closed buffer, or a sendc or recvc on an open one", Full: "a send, and the buffer holds its capacity",
   EmptyTake: "a receive, and the buffer holds nothing", NotEmpty: "a recvc, and the buffer holds something", WrongValue: "a receive whose value is not the buffer's first",
