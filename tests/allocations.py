@@ -18,7 +18,8 @@ sys.dont_write_bytecode = True
 from named import program_at
 
 ROOT = Path(__file__).resolve().parent.parent
-MOST_STEPS = 1_048_576
+sys.path.append(str(ROOT / "plans"))
+from limits import MOST_STEPS  # noqa: E402
 
 
 def plan_of(calls, lock):

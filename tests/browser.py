@@ -60,13 +60,22 @@ class Page:
         self.load(url)
         self.wait("document.readyState === 'complete' && location.href !== 'about:blank'")
 
-    def wait(self, code, seconds=60):
+    def wait(self, code, seconds=240):
         """Waits until an expression is true in the page."""
         end = time.monotonic() + seconds
-        while not self.read(code):
+        while not self.is_so(code):
             if time.monotonic() > end:
                 raise RuntimeError(f"not within {seconds} s: {code}")
             time.sleep(0.02)
+
+    def is_so(self, code):
+        """Whether an expression is true in the page. While a page takes the place of another, it is not."""
+        try:
+            return self.read(code)
+        except RuntimeError as fault:
+            if not re.search("Cannot find context|context was destroyed|navigated", str(fault)):
+                raise
+            return False
 
     def click(self, selector):
         """Clicks into the middle of what a selector names."""

@@ -7,7 +7,7 @@
 All: 2,000 random plans and 500 up to the limits with tests/plain_tower.rs, 10,000 damaged traces and 4,000 damaged plans with judges of the formats,
 random plans in threads, and quiet ones. First it compares these programs with each other. The last line says whether all were equal.
 
-Random plans: COUNT of them (default: 500), from the seed FIRST (default: 1) on; with `large` up to the limits (16 CPUs, 256 threads), under schedules of up to
+Random plans: COUNT of them (default: 500), from the seed FIRST (default: 1) on; with `large` up to the limits, under schedules of up to
 20,000 steps. It compares traces, state lines and statuses; the last line counts the equal ones.
 Build first: (cd crates/mctower && rt run -- count --cpus 1 --times 1).
 """

@@ -14,6 +14,8 @@ import random
 import subprocess
 import sys
 
+from pathlib import Path
+
 try:
     import tomllib
 except ModuleNotFoundError:  # before Python 3.11
@@ -21,10 +23,11 @@ except ModuleNotFoundError:  # before Python 3.11
 
 from named import program_at
 
-CPUS, THREADS, BUFFERS, CAPACITY, TRACE, ENTRIES = 16, 256, 16, 32, 65536, 1048576
-LINES, STEPS, WORD, WORDS = 256, 1048576, 2**64, 8
-ODD_NUMBERS = [b'00', b'01', b'', b'-', b'-1', b'+1', b'1.0', b'x', b'8', b'17', b'33',
-               *(str(n).encode() for n in (CPUS - 1, CPUS, THREADS - 1, THREADS, ENTRIES - 1, ENTRIES)),
+sys.path.append(str(Path(__file__).resolve().parent.parent / 'plans'))
+from limits import BUFFERS, CAPACITY, CPUS, ENTRIES, LINES, MOST_CPU, MOST_STEPS, THREADS, TRACE, WORD, WORDS  # noqa: E402
+
+AT_LIMITS = (WORDS, CPUS + 1, CAPACITY + 1, CPUS - 1, CPUS, THREADS - 1, THREADS, ENTRIES - 1, ENTRIES)
+ODD_NUMBERS = [b'00', b'01', b'', b'-', b'-1', b'+1', b'1.0', b'x', *(str(n).encode() for n in AT_LIMITS),
                b'18446744073709551615', b'18446744073709551616', b'99999999999999999999999']
 
 
@@ -218,7 +221,7 @@ def program(lines, thread, buffers):
     if not lines:
         raise Bad(f'{where} 0 Empty(15)')
     if len(lines) > LINES:
-        raise Bad(f'{where} 256 TooLong(14)')
+        raise Bad(f'{where} {LINES} TooLong(14)')
     for number, line in enumerate(lines):
         fault = guest_fault(line, len(lines))
         if fault:
@@ -294,11 +297,11 @@ def steps(text):
         if len(pieces) > 2 or not all(is_number(piece) for piece in pieces):
             return None
         many = int(pieces[1]) if len(pieces) == 2 else 1
-        if int(pieces[0]) > 255 or not 1 <= many <= STEPS:
+        if int(pieces[0]) > MOST_CPU or not 1 <= many <= MOST_STEPS:
             return None
         found.append(int(pieces[0]))
         total += many
-    return found if total <= STEPS else None
+    return found if total <= MOST_STEPS else None
 
 
 # Cases.
@@ -459,10 +462,13 @@ def near_a_plan(pick, text):
     if how == 4:
         return text.replace(b'"', pick.choice([b"'", b'', b'"""']), pick.choice([1, 2, 99]))
     if how == 5:
-        return text.replace(b'program = [', b'program = [' + b'"exit", ' * pick.choice([1, 252, 256, 300]), 1)
+        return text.replace(b'program = [', b'program = [' + b'"exit", ' * pick.choice([1, LINES - 4, LINES, LINES + 44]), 1)
     if how == 6:
         return text.replace(pick.choice([b'"ticket"', b'"grant"', b'lock = ']), pick.choice(NEAR_A_LOCK), 1)
     return text.replace(b'[[thread]]', pick.choice([b'[thread]', b'[[threads]]', b'[[thread]]\nname = 1', b'[[thread.x]]']), pick.choice([1, 9]))
+
+
+ODD_ITEMS = ['*', ',', '0', '00', '9', ' ', 'x', str(MOST_CPU), str(MOST_CPU + 1), f'*{MOST_STEPS}', f'*{MOST_STEPS + 1}', '*0', '-']
 
 
 def some_schedule(pick):
@@ -470,7 +476,7 @@ def some_schedule(pick):
     text = ','.join(items)
     for _ in range(pick.choice([0, 0, 0, 1])):
         at = pick.randrange(len(text) + 1)
-        text = text[:at] + pick.choice(['*', ',', '0', '00', '9', ' ', 'x', '255', '256', '*1048576', '*1048577', '*0', '-']) + text[at + pick.randrange(2):]
+        text = text[:at] + pick.choice(ODD_ITEMS) + text[at + pick.randrange(2):]
     return text
 
 

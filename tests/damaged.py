@@ -2,6 +2,8 @@
 import re
 from pathlib import Path
 
+from limits import CAPACITY, CPUS, ENTRIES, LINES, MOST_STEPS, THREADS, TRACE, WORDS
+
 ROOT = Path(__file__).resolve().parent.parent
 PLANS = [path.read_bytes() for folder in ("plans", "tests/rows") for path in sorted((ROOT / folder).glob("*.toml"))]
 PRINTED = [path.read_bytes() for folder in ("plans", "tests/rows") for path in sorted((ROOT / folder / "expected").glob("*.txt"))]
@@ -9,8 +11,8 @@ RUNS = [text.partition(b"cpu 0 ")[0] for text in PRINTED]
 ODD_BYTES = [b"\0", b"\t", b"\n", b"\r", b"\r\n", b" ", b'"', b"'", b"#", b",", b"-", b".", b"0", b"9", b"=", b"[", b"]", b"{", b"}", b"\\", b"_",
              b"e", b"x", b"\x7f",
              b"\xc3\xa9", b"\xff"]
-ODD_NUMBERS = ["0", "00", "01", "", "-", "-1", "+1", "1.0", "x", "8", "9", "15", "16", "17", "32", "33", "255", "256", "1048575", "1048576",
-               "18446744073709551615", "18446744073709551616", "9" * 25]
+AT_LIMITS = (WORDS, WORDS + 1, CPUS - 1, CPUS, CPUS + 1, CAPACITY, CAPACITY + 1, THREADS - 1, THREADS, ENTRIES - 1, ENTRIES)
+ODD_NUMBERS = ["0", "00", "01", "", "-", "-1", "+1", "1.0", "x", *map(str, AT_LIMITS), "18446744073709551615", "18446744073709551616", "9" * 25]
 # Values of TOML of each kind, right and wrong.
 ODD_VALUES = [
     "true", "True", '"1"', "'1'", '"""1"""', "'''\n1'''", r'"\u0041"', r'"\x41\e"', r'"\ud800"', r'"\U00110000"', r'"\q"', '"""a\\\n  b"""',
@@ -24,8 +26,9 @@ ODD_VALUES = [
     "[" * 80 + "]" * 80, "[" * 81 + "]" * 81, "{a = " * 80 + "1" + "}" * 80, "{a = " * 81 + "1" + "}" * 81,
 ]
 ODD_LINES = [
-    "cpus = 17", "cpus = 0", "trace = 65537", "buffers = [33]", "buffers = []", 'buffers = [1, "a"]', 'lock = "mcs"', 'lock = "ticket"', "lock = 1",
-    "cpu = 16", "cpu = -1",
+    f"cpus = {CPUS + 1}", "cpus = 0", f"trace = {TRACE + 1}", f"buffers = [{CAPACITY + 1}]", "buffers = []", 'buffers = [1, "a"]',
+    'lock = "mcs"', 'lock = "ticket"', "lock = 1",
+    f"cpu = {CPUS}", "cpu = -1",
     "thread = []", "[thread]", "[[thread]]", "[[threads]]", "[thread.a]", "[[thread.a]]", "[other]", "[other.b]", "[[other]]", "other.b = 1",
     "other = 1", "thread.a = 1",
     '"cpu" = 0', "'cpu' = 0", 'program = ["exit"]', 'program = "exit"', "program = [1]", "program = []", '"" = 1', "a.b.c = 1", "a . b = 1",
@@ -33,7 +36,7 @@ ODD_LINES = [
     "\t# a", ".".join(["a"] * 80) + " = 1", ".".join(["a"] * 81) + " = 1", "# \x01",
 ]
 THREAD = re.compile(rb"\[\[thread\]\]\ncpu = (\d+)\nprogram = (\[.*?\])\n", re.S)
-ODD_ITEMS = ["*", ",", " ", "\t", "\n", "7", "*1048577", "*0", ".", "é", "٣", ";", *ODD_NUMBERS]
+ODD_ITEMS = ["*", ",", " ", "\t", "\n", "7", f"*{MOST_STEPS + 1}", "*0", ".", "é", "٣", ";", *ODD_NUMBERS]
 WORDS = ["set", "add", "sub", "jnz", "send", "sendm", "recv", "recvm", "close", "yield", "exit", "SEND", "sent", "mov", "#"]
 ODD_PIECES = [*WORDS, "r0", "r7", "r8", "R0", "r00", *ODD_NUMBERS]
 
@@ -124,9 +127,9 @@ def other_layout(pick, text):
     if how == 2:
         return text.replace(b'"', pick.choice([b"'", b'"""', b"'''", b""]), pick.choice([2, 4, 99]))
     if how == 3:
-        return text.replace(b"program = [", b"program = [" + b'"exit", ' * pick.choice([1, 252, 256, 300]), 1)
+        return text.replace(b"program = [", b"program = [" + b'"exit", ' * pick.choice([1, LINES - 4, LINES, LINES + 44]), 1)
     if how == 4:
-        return text + b'\n[[thread]]\ncpu = 0\nprogram = ["exit"]\n' * pick.choice([1, 253, 255, 256])
+        return text + b'\n[[thread]]\ncpu = 0\nprogram = ["exit"]\n' * pick.choice([1, THREADS - 3, THREADS - 1, THREADS])
     if how == 5:
         header = pick.choice([b"[thread]", b"[[threads]]", b"[[ thread ]]", b"[ [thread]]", b"[[thread]]\nname = 1", b"[[thread.x]]"])
         return text.replace(b"[[thread]]", header, pick.choice([1, 9]))
@@ -172,7 +175,7 @@ def some_text(pick):
         value = items[b].pop(0) if kind == "recv" else some_value(pick, width) if kind in ("send", "sendc") else "-"
         items[b] += [value] if kind == "send" else []
         closed |= {b} if kind == "close" else set()
-        entries.append([pick.randrange(16), pick.randrange(256), kind, b, value])
+        entries.append([pick.randrange(CPUS), pick.randrange(THREADS), kind, b, value])
     for _ in range(pick.choice([0, 1, 1, 2])):
         near_a_run(pick, entries)
     entries = numbered(entries)

@@ -9,6 +9,7 @@ if [ "${1:-}" = --help ]; then sed -n '2,/^[^#]/ s/^# \{0,1\}//p' "$0"; exit; fi
 set -u
 export LC_ALL=C
 cd "$(dirname "$0")/.."
+eval "$(tools/limit-table.py --shell)"
 room=$(mktemp -d)
 trap 'rm -rf "$room"' EXIT
 passed=0
@@ -83,7 +84,7 @@ usage() {
   case $1 in
     count)
       echo 'usage: mctower count --cpus N --times K [--lock L]'
-      echo '       N is 1 to 16, K is 1 to 1000, L is ticket or grant; mctower count --help says more'
+      echo "       N is 1 to $CPUS, K is 1 to 1000, L is ticket or grant; mctower count --help says more"
       ;;
     run)
       echo 'usage: mctower run [--schedule S] < PLAN'
@@ -109,12 +110,12 @@ helped() {
 no_schedule() {
   export schedule=$1
   row 2 '' $'error: BadSchedule(9)\n' "mctower run --schedule=\"\$schedule\" < plans/one-send.toml # $1"
-  row 2 '' $'error: BadSchedule(9)\n' "echo cpus = 17 | mctower run --schedule=\"\$schedule\" # $1"
+  row 2 '' $'error: BadSchedule(9)\n' "echo cpus = $((CPUS + 1)) | mctower run --schedule=\"\$schedule\" # $1"
 }
 # The schedule $1 names a CPU that the plan of one send has not: told by status 1 and its line, after a plan that is refused.
 no_cpu() {
   row 1 '' $'error: BadCpu(4)\n' "mctower run --schedule '$1' < plans/one-send.toml"
-  row 1 '' $'error: OutOfRange(22) cpus\n' "echo cpus = 17 | mctower run --schedule '$1'"
+  row 1 '' $'error: OutOfRange(22) cpus\n' "echo cpus = $((CPUS + 1)) | mctower run --schedule '$1'"
 }
 
 rows() {
@@ -128,8 +129,9 @@ rows() {
   row 0 $'plain 8000\ntable 8000\n' '' 'mctower count --cpus 8 --times 1000 --lock grant'
   row 0 $'plain 8000\ntable 8000\n' '' 'mctower count --cpus 8 --times 1000 --lock ticket'
   # a fair lock is handed from thread to thread, which takes long where there are many more of them than free processors
-  patience=120 row 0 $'plain 16000\ntable 16000\n' '' 'mctower count --cpus 16 --times 1000 --lock grant'
-  patience=120 row 0 $'plain 16000\ntable 16000\n' '' 'mctower count --lock=ticket --times=1000 --cpus=16'
+  told="plain ${CPUS}000"$'\n'"table ${CPUS}000"$'\n'
+  patience=120 row 0 "$told" '' "mctower count --cpus $CPUS --times 1000 --lock grant"
+  patience=120 row 0 "$told" '' "mctower count --lock=ticket --times=1000 --cpus=$CPUS"
   row 0 "$sent" "$state" "$send"
   row 0 $'yes\n' '' "printf '%s' '$sent' | mctower check"
   row 0 $'yes\n' "$state" "$send | mctower check"
@@ -172,7 +174,7 @@ rows() {
   helped 'mctower --help' $'A verified thread tower'
   helped 'mctower -h' $'A verified thread tower'
   helped 'mctower help' $'A verified thread tower'
-  helped 'mctower count --help' $'usage: mctower count --cpus N --times K [--lock L]\n\nEach of N CPUs (1 to 16) does K critical sections (1 to 1000)'
+  helped 'mctower count --help' $'usage: mctower count --cpus N --times K [--lock L]\n\nEach of N CPUs (1 to '"$CPUS) does K critical sections (1 to 1000)"
   helped 'mctower help count' 'usage: mctower count '
   helped 'mctower help run' 'usage: mctower run '
   helped 'mctower run -h < .' 'usage: mctower run '
@@ -180,7 +182,7 @@ rows() {
   helped 'mctower check --help' 'usage: mctower check '
   row 2 "$version" '' 'mctower --version'
   row 2 "$version" '' 'mctower -V'
-  row 0 $'3\n' '' 'mctower run --help | grep -cE "trace .* 1 to 65536$|sendm b n .* 1 to 8$|plans/explain.py"'
+  row 0 $'3\n' '' 'mctower run --help | grep -cE "trace .* 1 to '"$TRACE"'$|sendm b n .* 1 to 8$|plans/explain.py"'
   row 1 '' $'error: WriteFault(8)\n' 'mctower --help > /dev/full'
   # a bad command line: no command, one that is none, and a word that is no text
   bad_line 'mctower' 'no command is given'
@@ -227,9 +229,9 @@ rows() {
   bad_line 'mctower threads --turns 1,000 < plans/one-send.toml' '--turns 1,000: expected 1 to 1000000000' threads
   bad_line "mctower threads --turns ''" '--turns : expected 1 to 1000000000' threads
   bad_line "mctower threads --turns \$'7\\n8'" '--turns 7: expected 1 to 1000000000' threads
-  bad_line 'mctower count --cpus 0 --times 1' '--cpus 0: expected 1 to 16' count
-  bad_line 'mctower count --cpus 17 --times 1' '--cpus 17: expected 1 to 16' count
-  bad_line 'mctower count --cpus 17 --times 0' '--cpus 17: expected 1 to 16' count
+  bad_line 'mctower count --cpus 0 --times 1' "--cpus 0: expected 1 to $CPUS" count
+  bad_line "mctower count --cpus $((CPUS + 1)) --times 1" "--cpus $((CPUS + 1)): expected 1 to $CPUS" count
+  bad_line "mctower count --cpus $((CPUS + 1)) --times 0" "--cpus $((CPUS + 1)): expected 1 to $CPUS" count
   bad_line 'mctower count --cpus 2 --times 1001' '--times 1001: expected 1 to 1000' count
   bad_line 'mctower count --cpus 2 --times 0 --lock mcs' '--times 0: expected 1 to 1000' count
   bad_line 'mctower count --cpus 2 --times 3 --lock mcs' '--lock mcs: expected ticket or grant' count
@@ -242,17 +244,17 @@ rows() {
   done
   # a refusal
   for schedule in 1 0,1 '0*6,255' '0*3,1' '7*1000,0'; do no_cpu "$schedule"; done
-  row 1 '' $'error: OutOfRange(22) cpus\n' 'echo cpus = 17 | mctower run'
-  row 1 '' $'error: OutOfRange(22) cpus\n' 'echo cpus = 17 | mctower threads --turns 9'
+  row 1 '' $'error: OutOfRange(22) cpus\n' "echo cpus = $((CPUS + 1)) | mctower run"
+  row 1 '' $'error: OutOfRange(22) cpus\n' "echo cpus = $((CPUS + 1)) | mctower threads --turns 9"
   row 1 '' $'error: BadToml(20)\n' "printf '# \\xff\\n' | mctower run"
   row 1 '' $'error: BadToml(20)\n' "printf '# \\xff\\n' | mctower threads --turns 9"
   # each change of a trace text alone, and the first line with a fault
   verdict '1 Spelling(30)' 'head -c 0'
   verdict '1 Spelling(30)' "sed '1s/\$/\\r/'"
-  verdict '2 Range(31)' "sed '2s/1/17/'"
-  row 0 $'yes\n' '' "printf '%s' '$sent' | sed '4s/e 0 0/e 15 255/' | mctower check"
-  verdict '4 Range(31)' "sed '4s/e 0/e 16/'"
-  verdict '4 Range(31)' "sed '4s/e 0 0/e 0 256/'"
+  verdict '2 Range(31)' "sed '2s/1/$((BUFFERS + 1))/'"
+  row 0 $'yes\n' '' "printf '%s' '$sent' | sed '4s/e 0 0/e $((CPUS - 1)) $((THREADS - 1))/' | mctower check"
+  verdict '4 Range(31)' "sed '4s/e 0/e $CPUS/'"
+  verdict '4 Range(31)' "sed '4s/e 0 0/e 0 $THREADS/'"
   verdict '4 Range(31)' "sed '4s/7/18446744073709551616/'"
   verdict '4 Spelling(30)' "sed '4s/7/\\xff/'"
   verdict '4 Op(32)' "sed '4s/0 0\$/1 0/'"
@@ -292,13 +294,13 @@ rows() {
   verdict '5 Left(37)' "sed -e '1s/1/3/' -e '4s/7/7,8/' -e '5s/7/7 8/'"
   # each change of a plan alone, and its error line
   refused 'MissingKey(21) cpus' 's/^cpus = 1/cpus = "1"/'
-  refused 'OutOfRange(22) cpus' 's/^cpus = 1/cpus = 17/'
+  refused 'OutOfRange(22) cpus' "s/^cpus = 1/cpus = $((CPUS + 1))/"
   refused 'BadToml(20)' 's/^cpus = 1/cpus = /'
   refused 'BadToml(20)' 's/^cpus = 1/&\n&/'
   refused 'MissingKey(21) trace' '/^trace/d'
-  refused 'OutOfRange(22) trace' 's/^trace = 4/trace = 65537/'
+  refused 'OutOfRange(22) trace' "s/^trace = 4/trace = $((TRACE + 1))/"
   refused 'MissingKey(21) buffers' 's/\[1\]/["1"]/'
-  refused 'OutOfRange(22) buffers' 's/\[1\]/[33]/'
+  refused 'OutOfRange(22) buffers' "s/\[1\]/[$((CAPACITY + 1))]/"
   refused 'BadToml(20)' 's/\[1\]/[1/'
   refused 'MissingKey(21) thread' 's/\[\[thread\]\]/[thread]/'
   refused 'OutOfRange(22) thread' 's/\[\[thread\]\]/thread = []\n[[other]]/'
@@ -386,13 +388,13 @@ rows() {
       && mctower check < '$room/long' && grep -c '^e ' '$room/long'"
   # the longest traces: the threads of nine CPUs fill them, and the order of all their entries is gathered and judged
   {
-    printf 'cpus = 9\ntrace = 65536\nbuffers = [32, 32, 32, 32, 32, 32, 32, 32, 32]\n'
+    printf 'cpus = 9\ntrace = %d\nbuffers = [%s]\n' "$TRACE" "$(yes "$CAPACITY" | head -n 9 | paste -sd ,)"
     for cpu in {0..8}; do
       printf '[[thread]]\ncpu = %d\nprogram = ["set r0 7", "set r1 1", "send %d r0", "jnz r1 2"]\n' "$cpu" "$cpu"
       printf '[[thread]]\ncpu = %d\nprogram = ["set r1 1", "recv %d r0", "jnz r1 1"]\n' "$cpu" "$cpu"
     done
   } > "$room/full"
-  patience=120 row 0 $'yes\n589815\n' "$(printf 'cpu %d TraceFull\n' {0..8})"$'\n' \
+  patience=120 row 0 $'yes\n'"$((9 * (TRACE - 1)))"$'\n' "$(printf 'cpu %d TraceFull\n' {0..8})"$'\n' \
     "mctower threads --turns 1000000000 < '$room/full' > '$room/long' && mctower check < '$room/long' && grep -c '^e ' '$room/long'"
   # a worker whose CPU is idle lets another run: on one processor a thousand messages through a buffer for one take a part of a second, and else a minute
   {

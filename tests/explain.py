@@ -27,6 +27,7 @@ import damaged  # noqa: E402
 import explain  # noqa: E402
 import kernel  # noqa: E402
 import mistakes  # noqa: E402
+from limits import CPUS  # noqa: E402
 from named import program_at  # noqa: E402
 from reading import Refusal, read_plan  # noqa: E402
 from schedules import read_schedule, schedule_of, steps_of  # noqa: E402
@@ -196,8 +197,8 @@ def command_lines(to):
     to.hold("commands", "kernel.py", command(["plans/kernel.py", str(plan)], to), (1, "", line + beside))
     to.hold("commands", "picture.py", command(["plans/picture.py", str(plan)], to), (1, "", line + beside))
     to.hold("commands", "explain.py", command(["plans/explain.py", str(plan)], to), (1, line + beside, ""))
-    to.hold("commands", "explain.py -", command(["plans/explain.py", "-"], to, b"cpus = 17"),
-            (1, "error: OutOfRange(22) cpus\nstandard input:1: cpus is 17: expected an integer, 1 to 16\n", ""))
+    to.hold("commands", "explain.py -", command(["plans/explain.py", "-"], to, f"cpus = {CPUS + 1}".encode()),
+            (1, f"error: OutOfRange(22) cpus\nstandard input:1: cpus is {CPUS + 1}: expected an integer, 1 to {CPUS}\n", ""))
     to.hold("commands", "explain.py --check", command(["plans/explain.py", "--check", "-"], to),
             (3, "no 1 Spelling(30)\n"
                 "standard input:1: expected mctower-trace 1, but the text ends. The text is empty: was the plan of its run rejected?\n", ""))

@@ -28,14 +28,21 @@ echo "$name ends"; echo "- $name" >> "$ROOM/events"
 """
 # What the stub of a prover takes: as long as a check that gate-minutes.py sees.
 PROVER = "timeout 2.5 bash -c 'exec -a /kit/rattle bash -c \"while :; do :; done\" --crate-name NAME'"
+# It proves one crate of three, which leaves two: the early scripts begin. Then it proves the second, and mutants may be tried.
 RT = """#!/usr/bin/env bash
-echo "rt $* begins"
+echo "rt $* begins"; echo "+ rt" >> "$ROOM/events"
+[ ! -f "$0.before" ] || . "$0.before"
+printf 'rt: %s proved\n' first second
 [ ! -f "$0.how" ] || . "$0.how"
+echo "- rt" >> "$ROOM/events"
 echo '5 passed, 0 failed'
 """
+MEMORY = "MemAvailable:   16000000 kB\n"
+CRATES = "# Three crates.\nfirst:\nsecond: first\nmctower: second\n"
 BODIES = """#!/usr/bin/env bash
 if [ "$1" = --self-test ]; then echo '2 passed, 0 failed'; exit; fi
-case "$*" in '--after-ci --minutes '[1-9]*) ;; *) echo "wrong bodies of $*"; exit 1 ;; esac
+case "$*" in '--after-ci --minutes '[0-9]*) ;; *) echo "wrong bodies of $*"; exit 1 ;; esac
+echo "$*" >> "$ROOM/bodies"
 [ ! -f "$0.how" ] || . "$0.how"
 echo "$* of wrong bodies"; echo '30 passed, 0 failed'
 """
@@ -62,32 +69,35 @@ def written(path, text):
 
 
 def made(room):
-    """Puts the gate into a folder with a stub for each of its steps; returns the scripts that run beside others, and those that run alone."""
+    """Puts the gate into a folder with a stub for each of its steps; returns the scripts that may run early, those that run beside others, and those that run
+    alone."""
     for name in (".ci/run", "tools/gate.py", "tools/gate-minutes.py"):
         written(room / name, (ROOT / name).read_text())
     names = subprocess.run(["bash", room / ".ci/run", "--list"], stdout=subprocess.PIPE, text=True, check=True).stdout.splitlines()
-    alone = [it.removeprefix("alone ") for it in names if it.startswith("alone ")]
-    beside = [it for it in names if not it.startswith("alone ")]
-    for name in [*beside, *alone]:
+    early, alone = ([it.removeprefix(kind) for it in names if it.startswith(kind)] for kind in ("early ", "alone "))
+    beside = [it for it in names if " " not in it]
+    for name in [*early, *beside, *alone]:
         written(room / name, STUB)
+    (room / "crates.txt").write_text(CRATES)
+    (room / "meminfo").write_text(MEMORY)
     written(room / "bin/rt", RT)
     for name in ("node", "rustc"):
         written(room / "bin" / name, "#!/bin/sh\n")
     for name in BUILDS:
         written(room / name, "#!/bin/sh\n")
     written(room / "tests/wrong-bodies.py", BODIES)
-    return beside, alone
+    return early, beside, alone
 
 
 def outcome(room, how, path=None):
     """Runs the gate on few cores with no input, where the steps named end as `how` says; returns its status and lines, and what its scripts told of when. It
     finds its tools along `path`, if one is given, and has no home."""
-    for old in [*room.glob("*/*.how"), room / "events"]:
+    for old in [*room.glob("*/*.how"), *room.glob("*/*.before"), room / "events", room / "bodies"]:
         old.unlink(missing_ok=True)
     for name, text in how.items():
-        (room / f"{name}.how").write_text(text)
+        (room / (name if name.endswith(".before") else f"{name}.how")).write_text(text)
     few = sorted(os.sched_getaffinity(0))[:CORES]
-    seen = {**os.environ, "CI": "true", "ROOM": str(room), "HOME": str(room), "PATH": path or f"{room}/bin:{os.environ['PATH']}"}
+    seen = {**os.environ, "CI": "true", "ROOM": str(room), "MEMINFO": f"{room}/meminfo", "HOME": str(room), "PATH": path or f"{room}/bin:{os.environ['PATH']}"}
     ran = subprocess.run([shutil.which("bash"), room / ".ci/run"], cwd="/", env=seen, stdin=subprocess.DEVNULL, stdout=subprocess.PIPE,
                          stderr=subprocess.DEVNULL, text=True, preexec_fn=lambda: os.sched_setaffinity(0, few))
     events = (room / "events").read_text().splitlines() if (room / "events").exists() else []
@@ -104,20 +114,27 @@ def most_at_once(events, names):
     return most, others
 
 
+def is_within(events, names):
+    """Whether all of these scripts began and ended while `rt ci` ran."""
+    of_it = events[events.index("+ rt") : events.index("- rt")]
+    return all(f"{sign} {it}" in of_it for sign in "+-" for it in names)
+
+
 def in_one_piece(lines, names):
     """Whether the two lines of each script stand together."""
     return all(f"{it} begins" in lines and lines[lines.index(f"{it} begins") + 1] == f"{it} ends" for it in names)
 
 
-def all_pass(rows, room, beside, alone):
+def all_pass(rows, room, early, beside, alone):
     other = subprocess.Popen(["bash", "-c", PROVER.replace("NAME", "outside")])
     status, lines, events = outcome(room, {"bin/rt": PROVER.replace("NAME", "inside")})
     other.wait()
-    shown = "\n".join(lines)
+    shown, every = "\n".join(lines), [*early, *beside, *alone]
     rows.is_so("a run in which all passes ends with status 0", status == 0, shown)
-    rows.is_so("the last line adds up what rt ci and wrong bodies counted", lines[-1] == "37 passed, 0 failed", shown)
-    rows.is_so("each script's output stands in one piece", in_one_piece(lines, [*beside, *alone]), shown)
-    rows.is_so("each script tells what it took, twice", all(sum(it.startswith(f"gate: {name} took") for it in lines) == 2 for name in [*beside, *alone]), shown)
+    rows.is_so("the last line adds up what rt ci and wrong bodies counted", lines[-1] == "67 passed, 0 failed", shown)
+    rows.is_so("each script's output stands in one piece", in_one_piece(lines, every), shown)
+    rows.is_so("each script tells what it took, twice", all(sum(it.startswith(f"gate: {name} took") for it in lines) == 2 for name in every), shown)
+    rows.is_so("early scripts run one at a time next to rt ci", most_at_once(events, early) == (1, 1) and is_within(events, early), "\n".join(events))
     rows.is_so("scripts run side by side, as many as there are cores", most_at_once(events, beside) == (CORES, 0), "\n".join(events))
     rows.is_so("and those that run alone run alone", most_at_once(events, alone) == (1, 0), "\n".join(events))
     minutes = [it for it in lines if it.startswith("| `")]
@@ -125,10 +142,38 @@ def all_pass(rows, room, beside, alone):
     rows.is_so("the minutes are of the run's own prover, and of no other's", own, shown)
 
 
-def some_fail(rows, room, beside, alone):
+def none_is_early(rows, room, early, beside, alone):
+    """An early script that did not begin before `rt ci` ended runs with the others."""
+    status, lines, events = outcome(room, {early[0]: "sleep 3", "bin/rt": "sleep 1"})
+    late = events[events.index("- rt") :]
+    is_so = status == 0 and all(f"+ {it}" in late for it in [*early[1:], *beside, *alone])
+    rows.is_so("early scripts that rt ci left no time for run after it", is_so, "\n".join(events))
+    (room / "meminfo").write_text("MemAvailable: 7000000 kB\n")
+    status, lines, events = outcome(room, {"bin/rt": "sleep 2"})
+    (room / "meminfo").write_text(MEMORY)
+    of_it = events[events.index("+ rt") : events.index("- rt")]
+    rows.is_so("where memory is short nothing runs next to rt ci, and all after it", status == 0 and of_it == ["+ rt"], "\n".join(events))
+    status, lines, events = outcome(room, {early[0]: "exit 3"})
+    is_one = lines[-2:] == [f"gate: failed: {early[0]}", "67 passed, 1 failed"]
+    rows.is_so("an early script that fails is one failure", status == 1 and is_one, "\n".join(lines))
+
+
+def bodies_are_drawn(rows, room, early, beside, alone):
+    """Mutants are drawn of the program's crate or of all others, by whose lines the ledger has, and each crate is named once."""
+    for crate in ("first", "mctower"):
+        (room / "tests/refused.txt").write_text(f"{crate}/a.edit 0123456789abcdef\n")
+        outcome(room, {"bin/rt": 'for _ in {1..200}; do [ ! -f "$ROOM/bodies" ] || break; sleep 0.1; done'})
+        calls = (room / "bodies").read_text().splitlines()
+        minutes = ("0", "16") if crate == "mctower" else ("16", "0")
+        want = [f"--after-ci --minutes {minutes[0]} --jobs 1 first second", f"--after-ci --minutes {minutes[1]} mctower"]
+        rows.is_so(f"mutants are drawn where the ledger has lines, of {crate}", calls == want, "\n".join(calls))
+    (room / "tests/refused.txt").unlink()
+
+
+def some_fail(rows, room, early, beside, alone):
     status, lines, _ = outcome(room, {beside[0]: "exit 3", beside[-1]: "kill -9 $$", alone[0]: "kill -15 $$"})
     shown = "\n".join(lines)
-    rows.is_so("three scripts that fail are three failures", status == 1 and lines[-1] == "37 passed, 3 failed", shown)
+    rows.is_so("three scripts that fail are three failures", status == 1 and lines[-1] == "67 passed, 3 failed", shown)
     rows.is_so("one that fails is named with its status", any(it.startswith(f"gate: {beside[0]} FAILED with status 3") for it in lines), shown)
     rows.is_so("one that is killed is named with the signal", any(it.startswith(f"gate: {beside[-1]} FAILED, killed by SIGKILL") for it in lines), shown)
     rows.is_so("and so is one that runs alone", any(it.startswith(f"gate: {alone[0]} FAILED, killed by SIGTERM") for it in lines), shown)
@@ -136,40 +181,43 @@ def some_fail(rows, room, beside, alone):
     rows.is_so("the failed are named together at the end", sorted(named) == sorted([beside[0], beside[-1], alone[0]]), shown)
 
 
-def a_count_fails(rows, room, beside, alone):
-    for name, how, last in (("rt ci that fails", {"bin/rt": "echo '4 passed, 1 failed'; exit 1"}, "4 passed, 1 failed"),
-                            ("rt ci that is killed", {"bin/rt": "kill -9 $$"}, "0 passed, 1 failed"),
-                            ("rt ci that says good and ends with a status", {"bin/rt": "echo '5 passed, 0 failed'; exit 2"}, "5 passed, 1 failed")):
-        status, lines, events = outcome(room, how)
-        rows.is_so(f"after {name} no script runs", status == 1 and lines[-1] == last and not events and "gate: failed: rt ci" in lines, "\n".join(lines))
-    bodies = "tests/wrong-bodies.py"
-    for name, how, last in (("wrong bodies that are killed", "kill -9 $$", "7 passed, 1 failed"),
-                            ("wrong bodies of which some fail", "echo '28 passed, 2 failed'; exit 1", "35 passed, 2 failed"),
-                            ("wrong bodies that end without a sum", "echo nothing; exit 0", "7 passed, 1 failed")):
+def a_count_fails(rows, room, early, beside, alone):
+    for name, how, last in (("rt ci that fails", "echo '4 passed, 1 failed'; exit 1", "4 passed, 1 failed"),
+                            ("rt ci that is killed", "kill -9 $$", "0 passed, 1 failed"),
+                            ("rt ci that says good and ends with a status", "echo '5 passed, 0 failed'; exit 2", "5 passed, 1 failed")):
+        for at in ("before", "how"):
+            status, lines, events = outcome(room, {"bin/rt" if at == "how" else "bin/rt.before": how})
+            ran = {it[2:] for it in events} - {"rt"}
+            is_so = status == 1 and lines[-1] == last and "gate: failed: rt ci" in lines and ran <= ({*early} if at == "how" else set())
+            rows.is_so(f"after {name} no script runs that did not run before", is_so, "\n".join(lines))
+    bodies, both = "tests/wrong-bodies.py", "tests/wrong-bodies.py of all other crates, tests/wrong-bodies.py of mctower"
+    for name, how, last in (("wrong bodies that are killed", "kill -9 $$", "7 passed, 2 failed"),
+                            ("wrong bodies of which some fail", "echo '28 passed, 2 failed'; exit 1", "63 passed, 4 failed"),
+                            ("wrong bodies that end without a sum", "echo nothing; exit 0", "7 passed, 2 failed")):
         status, lines, _ = outcome(room, {bodies: how})
-        rows.is_so(name, status == 1 and lines[-1] == last and lines[-2] == f"gate: failed: {bodies}", "\n".join(lines))
+        rows.is_so(name, status == 1 and lines[-1] == last and lines[-2] == f"gate: failed: {both}", "\n".join(lines))
 
 
-def some_look_at_nothing(rows, room, beside, alone):
+def some_look_at_nothing(rows, room, early, beside, alone):
     """Of those that may: one says why, one says nothing. Another one that ends so has failed."""
     status, lines, _ = outcome(room, {"metal/test.py": "echo 'metal: no QEMU'; exit 77", "web/in_browser.py": "exit 77"})
     shown = "\n".join(lines)
-    told = ["gate: left out: web/in_browser.py (web/in_browser.py ends)", "gate: left out: metal/test.py (metal: no QEMU)", "37 passed, 0 failed"]
+    told = ["gate: left out: web/in_browser.py (web/in_browser.py ends)", "gate: left out: metal/test.py (metal: no QEMU)", "67 passed, 0 failed"]
     rows.is_so("scripts that look at nothing are told in the last lines, and have not failed", status == 0 and lines[-3:] == told, shown)
     status, lines, _ = outcome(room, {beside[0]: "exit 77"})
-    is_failure = lines[-2:] == [f"gate: failed: {beside[0]}", "37 passed, 1 failed"]
+    is_failure = lines[-2:] == [f"gate: failed: {beside[0]}", "67 passed, 1 failed"]
     rows.is_so("one that has to look at something has failed", status == 1 and is_failure, "\n".join(lines))
 
 
-def a_program_is_missing(rows, room, beside, alone):
+def a_program_is_missing(rows, room, early, beside, alone):
     for build in BUILDS:
         (room / build).rename(room / "elsewhere")
         status, lines, _ = outcome(room, {})
         (room / "elsewhere").rename(room / build)
-        rows.is_so(f"without {build} the gate fails", status == 1 and lines[-2:] == [f"gate: failed: {build}", "37 passed, 1 failed"], "\n".join(lines))
+        rows.is_so(f"without {build} the gate fails", status == 1 and lines[-2:] == [f"gate: failed: {build}", "67 passed, 1 failed"], "\n".join(lines))
 
 
-def a_tool_is_missing(rows, room, beside, alone):
+def a_tool_is_missing(rows, room, early, beside, alone):
     """A folder of tools has what .ci/run and tools/gate.py are run by, and all that scripts ask for but one."""
     for missing in (*TOOLS, "python3"):
         tools = room / f"without-{missing}"
@@ -184,12 +232,13 @@ def a_tool_is_missing(rows, room, beside, alone):
         rows.is_so(f"without {missing} nothing is run, and that is told", status == 1 and lines == told and not events, "\n".join(lines))
 
 
-def none_is_lost(rows, beside, alone):
+def none_is_lost(rows, *kinds):
     """Nothing else misses a script that falls out of the lists of tools/gate.py."""
     page = (ROOT / "docs/GATE.md").read_text()
-    told = page[page.index("- **Scripts over the program") : page.index("- **`tests/wrong-bodies.py`**")]
+    told = page[page.index("- **Early scripts") : page.index("- **`tests/wrong-bodies.py`**")]
     named = set(re.findall(r"`((?:tests|tools|web|metal|explore|embed)/[\w.-]+\.(?:py|sh|mjs))`", told))
-    rows.is_so("docs/GATE.md names the scripts that the gate runs", named == {*beside, *alone}, f"{sorted(named ^ {*beside, *alone})}")
+    listed = {it for kind in kinds for it in kind}
+    rows.is_so("docs/GATE.md names the scripts that the gate runs", named == listed, f"{sorted(named ^ listed)}")
 
 
 def main():
@@ -197,10 +246,10 @@ def main():
     rows = Rows()
     with tempfile.TemporaryDirectory() as name:
         room = Path(name).resolve()
-        beside, alone = made(room)
-        none_is_lost(rows, beside, alone)
-        for look in (all_pass, some_fail, a_count_fails, some_look_at_nothing, a_program_is_missing, a_tool_is_missing):
-            look(rows, room, beside, alone)
+        kinds = made(room)
+        none_is_lost(rows, *kinds)
+        for look in (all_pass, none_is_early, bodies_are_drawn, some_fail, a_count_fails, some_look_at_nothing, a_program_is_missing, a_tool_is_missing):
+            look(rows, room, *kinds)
     print(f"gate: {rows.passed} passed, {rows.failed} failed")
     return 1 if rows.failed else 0
 

@@ -14,6 +14,9 @@ from pathlib import Path
 from named import program_at
 
 ROOT = Path(__file__).resolve().parent.parent
+sys.path.append(str(ROOT / "plans"))
+from limits import CPUS, THREADS  # noqa: E402
+
 BUILDS = ("crates/mctower/out/mctower", "crates/mctower/out/mctower.by-rattle")
 TEXTS = 1500
 # How many of the texts have to get a yes, of all versions and of the second and the third: else they show too little.
@@ -152,7 +155,7 @@ def some_entry(picks, earlier):
         value = items[0]
     else:
         value = some_message(picks)
-    cpu, thread = picks.below(16), picks.below(256)
+    cpu, thread = picks.below(CPUS), picks.below(THREADS)
     return Entry(cpu, thread, kind, buffer, value, ops + picks.below(16) // 15, pos + picks.below(16) // 15)
 
 

@@ -27,6 +27,7 @@ os.environ["MCTOWER"] = str(PROGRAM)
 sys.path.insert(0, str(ROOT / "plans"))
 
 import explore  # noqa: E402
+import limits  # noqa: E402
 import record  # noqa: E402
 import states  # noqa: E402
 from kernel import WRONG, Kernel  # noqa: E402
@@ -263,7 +264,7 @@ def words(tally, told):
         return tally.holds(False, "there is no node here, which runs the script of the pages")
     runs = told + [broken_run(ROOT / f"{BREAKS[mistake]}.toml", mistake) for mistake in WRONG]
     with tempfile.NamedTemporaryFile("w", suffix=".js", encoding="utf-8") as script:
-        script.write((ROOT / "plans/look.js").read_text(encoding="utf-8") + NODE)
+        script.write(limits.script() + (ROOT / "plans/look.js").read_text(encoding="utf-8") + NODE)
         script.flush()
         given = json.dumps({"runs": runs, "kept": [f"{name}.toml" for name in TOLD]})
         ran = subprocess.run([node, script.name], input=given, capture_output=True, text=True, check=True)

@@ -4,16 +4,16 @@
 //! plain_check < trace
 
 mod buffer;
+#[path = "../plans/limits.rs"]
+mod limits;
 
 use buffer::{Buffer, Message};
+use limits::{BUFFERS, CAPACITY, CPUS, ENTRIES, THREADS};
 use std::collections::VecDeque;
 use std::io::Read;
 
 const SPELLING: &str = "Spelling(30)";
 const RANGE: &str = "Range(31)";
-const CPUS: u64 = 16;
-const THREADS: u64 = 256;
-const ENTRIES: u64 = 1_048_576;
 
 /// The pieces of a line, just as many as are wanted.
 fn pieces<const N: usize>(line: &[u8]) -> Result<[&[u8]; N], &'static str> {
@@ -74,7 +74,7 @@ fn spelled<const N: usize>(line: &[u8], word: &[u8]) -> Result<[u64; N], &'stati
 struct Judge {
     version: u64,
     lowest: u64,
-    entries: u64,
+    entries: usize,
     buffers: Vec<Buffer>,
 }
 
@@ -94,11 +94,12 @@ impl Judge {
         if !has_numbers || !has_its_value || least_version > self.version {
             return Err(SPELLING);
         }
-        number(cpu, 0, CPUS - 1)?;
-        number(thread, 0, THREADS - 1)?;
+        number(cpu, 0, CPUS as u64 - 1)?;
+        number(thread, 0, THREADS as u64 - 1)?;
         let b = number(b, 0, self.buffers.len() as u64 - 1)? as usize;
         let message = if has_value { message(value)? } else { Message { words: [0; 8], count: 1 } };
-        let (op, pos) = (number(op, 0, ENTRIES - 1)?, number(pos, 0, ENTRIES - 1)?);
+        let last = ENTRIES as u64 - 1;
+        let (op, pos) = (number(op, 0, last)?, number(pos, 0, last)?);
         self.entries += 1;
         if self.entries > ENTRIES {
             return Err(RANGE);
@@ -162,9 +163,9 @@ fn judge(text: &[u8]) -> Result<(), (usize, &'static str)> {
         b"mctower-trace 3" => 3,
         _ => return Err((1, SPELLING)),
     };
-    let mut state = Judge { version, lowest: 1, entries: 0, buffers: Vec::with_capacity(16) };
+    let mut state = Judge { version, lowest: 1, entries: 0, buffers: Vec::with_capacity(BUFFERS) };
     let [count] = spelled(next()?.1, b"buffers ").map_err(|reason| (2, reason))?;
-    if !(1..=16).contains(&count) {
+    if !(1..=BUFFERS as u64).contains(&count) {
         return Err((2, RANGE));
     }
     for b in 0..count {
@@ -173,10 +174,10 @@ fn judge(text: &[u8]) -> Result<(), (usize, &'static str)> {
         if number != b {
             return Err((i, SPELLING));
         }
-        if !(1..=32).contains(&capacity) {
+        if !(1..=CAPACITY as u64).contains(&capacity) {
             return Err((i, RANGE));
         }
-        state.buffers.push(Buffer { capacity: capacity as usize, items: VecDeque::with_capacity(32), ops: 0, calls: [0; 3] });
+        state.buffers.push(Buffer { capacity: capacity as usize, items: VecDeque::with_capacity(CAPACITY), ops: 0, calls: [0; 3] });
     }
     let mut left = 0;
     while left < state.buffers.len() {

@@ -6,14 +6,17 @@
 FOLDER/SEED.toml for COUNT seeds from FIRST on, with schedules of at most STEPS steps (3,000 where
 nothing is said). Small systems that block often: up to 4 CPUs, 8 threads and 3 buffers of little
 room, schedules that run a CPU for a while or hand over at every step, and traces that are sometimes
-too short. With the word `large`, systems up to the limits: up to 16 CPUs, 256 threads and 16 buffers,
+too short. With the word `large`, systems up to the limits of CPUs, threads and buffers,
 of each every third as many as there may be, and longer schedules. In every other plan threads close buffers, some of them twice, and calls have targets; in
 every other one, whichever of these it is, they send and receive messages of several words."""
 import argparse
 import random
+import sys
+from pathlib import Path
 
+sys.path.append(str(Path(__file__).resolve().parent.parent / "plans"))
+from limits import BUFFERS, CPUS, THREADS  # noqa: E402
 
-CPUS, THREADS, BUFFERS = 16, 256, 16
 WORDS = ["set", "add", "sub", "send", "recv", "yield", "exit", "loop", "close", "sendm", "recvm"]
 REGISTERS = [0, 1, 2, 3] * 3 + [4, 5, 6, 7]
 

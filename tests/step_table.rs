@@ -5,6 +5,10 @@
 //! is as fast as one with a table of its own. It reads the subset of plans that bench/make.py writes, and
 //! arrays that go on in the next line behind a comma.
 
+#[path = "../plans/limits.rs"]
+mod limits;
+
+use self::limits::CAPACITY;
 use std::collections::VecDeque;
 use std::fmt;
 use std::io::Write;
@@ -225,7 +229,7 @@ impl Buffer {
             sleepers: queue(),
             waiting: [queue(), queue()],
             line: [queue(), queue()],
-            items: VecDeque::with_capacity(32),
+            items: VecDeque::with_capacity(CAPACITY),
             is_closed: false,
             effects: 0,
             closes: 0,

@@ -1,6 +1,6 @@
 #!/usr/bin/env python3
 """Runs the built program on the tables of tests/tables: traces for `check`, plans and programs that `run` accepts or rejects, and what programs do. The head of
-each table says what its rows mean. .ci/run calls it; it takes seconds.
+each table says what its rows mean. `{CPUS}` stands for that limit, and `{CPUS+1}` for one more. .ci/run calls it; it takes seconds.
 
     tests/tables.py [PROGRAM..]
 
@@ -16,8 +16,12 @@ from typing import Callable, NamedTuple
 from named import program_at
 
 ROOT = Path(__file__).resolve().parent.parent
+sys.path.append(str(ROOT / "plans"))
+import limits  # noqa: E402
+
 BUILDS = ("crates/mctower/out/mctower", "crates/mctower/out/mctower.by-rattle")
 REPEATED = re.compile(r"<(\d+)\*(.*?)>", re.S)
+LIMIT = re.compile(r"\{([A-Z]+)([+-]1)?\}")
 STEPS = "0*4000"  # more than any program of the tables takes
 
 
@@ -36,6 +40,7 @@ def sections(name):
     """Yields the base text, or '' where there is none, and the rows beneath it, of a table."""
     text = (ROOT / "tests/tables" / name).read_text().replace("\\\n", "")
     text = re.sub(r"^#.*\n", "", text, flags=re.M)
+    text = LIMIT.sub(lambda found: str(limits.TABLE[found[1]] + int(found[2] or 0)), text)
     for piece in text.split("==\n") if "==\n" in text else [f"--\n{text}"]:
         base, _, rows = piece.rpartition("--\n")
         if rows:
@@ -52,7 +57,7 @@ def with_lines(text, changes):
 
 def plan(lines):
     """Returns a plan whose one thread has these lines, with room for all that it does."""
-    return f"cpus = 1\ntrace = 64\nbuffers = {[8] * 16}\n[[thread]]\ncpu = 0\nprogram = {json.dumps(lines)}\n"
+    return f"cpus = 1\ntrace = 64\nbuffers = {[8] * limits.BUFFERS}\n[[thread]]\ncpu = 0\nprogram = {json.dumps(lines)}\n"
 
 
 class Case(NamedTuple):
@@ -114,7 +119,8 @@ def run(_, row):
 
 def most_entries(more, wanted):
     """A text of as many entries as a text may have, and of these lines behind them."""
-    pairs = (f"e 15 255 send 0 {i} {2 * i} {i}\ne 0 0 recv 0 {i} {2 * i + 1} {i}\n" for i in range(524_288))
+    last = f"{limits.CPUS - 1} {limits.THREADS - 1}"
+    pairs = (f"e {last} send 0 {i} {2 * i} {i}\ne 0 0 recv 0 {i} {2 * i + 1} {i}\n" for i in range(limits.ENTRIES // 2))
     text = "mctower-trace 1\nbuffers 2\ncap 0 1\ncap 1 1\n" + "".join(pairs) + f"{more}left 0\nleft 1\nend\n"
     return Case(["check"], text.encode(), wanted, lambda status, out, told: out)
 
@@ -140,7 +146,7 @@ def faults_of(program):
     """Runs all rows. Yields for each None, or what went wrong."""
     for name, case in cases():
         yield fault_of(name, case, outcome(program, case.words, case.text))
-    for more, wanted in ("", "yes\n"), ("e 0 0 recv 1 7 1 1\n", "no 1048581 Range(31)\n"):
+    for more, wanted in ("", "yes\n"), ("e 0 0 recv 1 7 1 1\n", f"no {limits.ENTRIES + 5} Range(31)\n"):
         case = most_entries(more, wanted)
         yield fault_of(f"the most entries and '{more}'", case, outcome(program, case.words, case.text))
 

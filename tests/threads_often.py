@@ -4,7 +4,7 @@ exit status, that `check` prints yes for the trace, and the stop reason of each 
 
     threads_often.py MCTOWER FIRST COUNT [large]
 
-With the word `large` the plans are up to the limits: 16 workers and 256 threads.
+With the word `large` the plans are up to the limits of CPUs and threads.
 
 A line for each CPU, on standard error, has the stop reason of its worker. AllEnded is right only if
 the program of each thread of that home CPU ended, followed along its entries. TraceFull is right only

@@ -28,12 +28,12 @@ Such mutants of one crate are in one check, and again those that another's error
 line that it changes. The words must say that something is private: a misspelled name, or a value of another type, is rejected too, and shows nothing about
 the tree. The last lines count them separately.
 
-Each rejected mutant has a line in tests/refused.txt: its name, and a sum of the kit's logic, of the rules by which it was judged, of the contracts and
-definitions of its crate and of all below it, of its function with that function's folder of proofs, and of the mutant itself; the line of a weak one ends in
-`weak`. Comments, the layout of imports, other functions with their proofs, and lemmas are not in the sum: what a contract forbids does not depend on its
-proof. A mutant whose sum is there is not tried again, except with --all. Each run without --after-ci writes the file, so that an author who changes a crate
-tries its mutants once and commits the lines; lines without a mutant are removed. If two branches meet, git takes the lines of both, and the next run drops
-those that fit neither. A file with a line of another form fails, and no mutant is tried.
+Each rejected mutant has a line in tests/refused.txt: its name, and a sum of the kit's logic, of the rules by which it was judged, of its function with that
+function's folder of proofs, of the mutant itself, and of the contracts and definitions, in its crate and in all below it, that it reaches by names. The line
+of a weak one ends in `weak`. docs/GATE.md says what a mutant reaches. Comments, the layout of imports, bodies of other functions, and lemmas are not in the
+sum: what a contract forbids does not depend on its proof. A mutant whose sum is there is not tried again, except with --all. Each run without --after-ci
+writes the file, so that an author who changes a crate tries its mutants once and commits the lines; lines without a mutant are removed. If two branches
+meet, git takes the lines of both, and the next run drops those that fit neither. A file with a line of another form fails, and no mutant is tried.
 
 The gate does not trust a line forever. With --minutes N it tries mutants that the file has, drawn by a seed that it chooses and prints, until they took N
 minutes of processor time: half of them among lines that the last 30 commits changed. Drawn mutants are tried over holes, so that nothing that their functions
@@ -73,7 +73,7 @@ class Run:
         self.lib, self.given = lib, given
         self.of = {it: bodies_of(it, f"{it.folder}/wrong") for it in crates}
         self.every = [body for mine in self.of.values() for body in mine]
-        of_tree, self.sums = Sums(lib, f"{logic()}\n{rules()}"), {}
+        of_tree, self.sums = Sums(lib, f"{logic()}\n{rules()}", crates), {}
         for it in crates:
             self.sums |= of_tree.of(it, self.of[it])
         self.lines = ledger.read(LEDGER)

@@ -1,16 +1,19 @@
 #!/usr/bin/env python3
 """Runs the merge gate: `rt ci` (every proof from nothing, the must-fail edits, the program as two compilers build it); then scripts over the programs that it
-leaves, as many in parallel as there are cores; then the mutants of crates/NAME/wrong, over the libraries that it leaves.
+leaves, as many in parallel as there are cores; then the mutants of crates/NAME/wrong, over the libraries that it leaves. Scripts that need no such program
+run next to the last proofs of `rt ci`, which leave a core idle, and so do the mutants of all crates but the program's.
 
     .ci/run           runs all, and reads no input
-    .ci/run --list    prints the scripts, one a line, with 'alone' before each that runs by itself
+    .ci/run --list    prints the scripts, one a line, with 'early' before each that may run next to `rt ci`, and 'alone' before each that runs by itself
 
 The output of a script is printed in one piece, once the script has ended. What each step took, which steps failed, and which had nothing to test, is printed
 again at the end. The last line adds up what `rt ci` and tests/wrong-bodies.py passed and failed. Each other script that fails, or that a signal ends, counts as
 one failure, and so does a program that `rt ci` must leave and did not. If a tool is missing that some script needs, it says so at once and runs nothing.
 """
 import argparse
+import contextlib
 import os
+import random
 import re
 import shutil
 import signal
@@ -19,15 +22,30 @@ import sys
 import tempfile
 import threading
 import time
+import typing
 from concurrent.futures import ThreadPoolExecutor
 
 ROOT = os.path.dirname(os.path.dirname(os.path.realpath(__file__)))
-# One script a line. These only read the tree and what `rt ci` left, and write to folders of their own: they run side by side, the longest first.
-BESIDE = """
-tests/every-step.sh
-tests/layers.sh
+# One script a line. These only read the tree, and write to folders of their own. They run one at a time next to the last proofs of `rt ci`, the longest first.
+EARLY = """
 tests/refuse.sh
 tests/third-lock.sh
+tests/layers.sh
+tests/another-capacity.py
+tools/public-functions.py
+tools/cycles.py
+tools/columns.py
+tools/prose.py
+tools/claims.py
+tools/words.py
+tools/trusted.py
+tools/limit-table.py
+tools/may-wait.py
+tests/help.sh
+"""
+# These also read what `rt ci` left: they run side by side, the longest first.
+BESIDE = """
+tests/every-step.sh
 tests/look.py
 tests/book.py
 explore/test.py
@@ -42,13 +60,6 @@ tests/wrong-programs.py
 tests/allocations.py
 tests/gate.py
 tests/manual.sh
-tests/help.sh
-tools/trusted.py
-tools/words.py
-tools/cycles.py
-tools/prose.py
-tools/claims.py
-tools/public-functions.py
 """
 # These start as many threads as a plan may have CPUs and give up after a while, or measure time: each has the machine for itself.
 ALONE = """
@@ -72,8 +83,17 @@ TOOLS_ELSEWHERE = "~/.cargo/bin"
 LEAST_PYTHON = (3, 9)
 # What `rt ci` leaves, by either compiler. Scripts run over those of them that are there.
 BUILDS = ("crates/mctower/out/mctower", "crates/mctower/out/mctower.by-rattle")
-# Minutes of processor time for wrong bodies that are drawn from those that were refused before.
+# Early steps run one at a time, once no more crates than this are left to prove: `cpu_workers` and then `mctower` take a core each. A step begins only while so
+# much memory is free. The largest check takes 6 GB, and `rt ci` may be about to begin it; a check of mutants takes up to 5 GB beside it.
+LAST_CRATES = 2
+SCRIPT_MEMORY = 8_000_000_000
+BODIES_MEMORY = 14_000_000_000
+PROVED = re.compile(r"rt: \w+ (proved|is kept: .*)")
+# Minutes of processor time for wrong bodies that are drawn from those that were refused before. They are all of the program's crate, or none is: see `draws`.
 DRAWN_MINUTES = "16"
+PROGRAM = "mctower"
+LEDGER = "tests/refused.txt"
+BODIES = "tests/wrong-bodies.py"
 SUM = re.compile(r"(\d+) passed, (\d+) failed")
 
 
@@ -116,14 +136,16 @@ class Gate:
                 self.failed += 1
                 self.steps.append(f"gate: {it} FAILED: rt ci left no such program")
 
-    def counted(self, name, *words):
+    def counted(self, name, *words, heard=lambda line: None):
         """Runs a step whose last line is 'N passed, M failed', prints all before that line as it comes, and adds it up. Returns whether the step
-        passed: one that ends otherwise has failed."""
+        passed: one that ends otherwise has failed. It calls `heard` with each line."""
         began, last = time.monotonic(), ""
         step = subprocess.Popen(words, cwd=ROOT, stdin=subprocess.DEVNULL, stdout=subprocess.PIPE, text=True, errors="replace")
         for line in step.stdout:
-            print(last, end="", flush=True)
+            with self.turn:
+                print(last, end="", flush=True)
             last = line
+            heard(line.strip())
         status, usage = ended(step)
         found = SUM.fullmatch(last.strip())
         passed, failed = map(int, found.groups()) if found else (0, 0)
@@ -133,16 +155,45 @@ class Gate:
         return status == 0
 
     def run(self):
-        if not self.counted("rt ci", "tools/gate-minutes.py", "rt", "ci"):
+        of_program, of_others = self.draws()
+        others = [it for it in crates() if it != PROGRAM]
+        mutants = [
+            Step(1, SCRIPT_MEMORY, lambda lanes: self.counted(f"{BODIES} --self-test", BODIES, "--self-test")),
+            Step(1, BODIES_MEMORY, lambda lanes: self.bodies("all other crates", of_others, lanes, *others)),
+        ]
+        scripts = {Step(LAST_CRATES, SCRIPT_MEMORY, lambda lanes, name=it: self.script(name)): it for it in EARLY.split()}
+        early, lanes = Early([*scripts, *mutants], len(others) + 1), len(os.sched_getaffinity(0))
+        is_proved = self.counted("rt ci", "tools/gate-minutes.py", "rt", "ci", heard=early.hear)
+        left = early.stop()
+        if not is_proved:
+            early.wait()
             self.steps.append("gate: nothing more was run")
             return
         self.look_for_builds()
-        with ThreadPoolExecutor(len(os.sched_getaffinity(0))) as lanes:
-            list(lanes.map(self.script, BESIDE.split()))
+        with ThreadPoolExecutor(max(1, lanes - early.is_working())) as pool:
+            list(pool.map(self.script, [*(scripts[it] for it in left if it in scripts), *BESIDE.split()]))
+        early.wait()
         for it in ALONE.split():
             self.script(it)
-        self.counted("tests/wrong-bodies.py --self-test", "tests/wrong-bodies.py", "--self-test")
-        self.counted("tests/wrong-bodies.py", "tools/gate-minutes.py", "tests/wrong-bodies.py", "--after-ci", "--minutes", DRAWN_MINUTES)
+        for it in left:
+            if it in mutants:
+                it.run(lanes)
+        self.bodies(PROGRAM, of_program, lanes, PROGRAM)
+
+    def draws(self):
+        """Draws whether mutants of the program's crate are tried again, or mutants of the others, by how many lines each has in the ledger. Returns the minutes
+        for each."""
+        with contextlib.suppress(OSError), open(f"{ROOT}/{LEDGER}", encoding="utf-8") as lines:
+            names = [it.partition("/")[0] for it in lines]
+            if names and random.SystemRandom().choice(names) == PROGRAM:
+                return DRAWN_MINUTES, "0"
+        return "0", DRAWN_MINUTES
+
+    def bodies(self, told, minutes, lanes, *names):
+        """Tries the mutants of these crates that have no line in the ledger, and draws others for so many minutes of processor time, in at most so many checks
+        side by side."""
+        few = ("--jobs", "1") if lanes == 1 else ()
+        self.counted(f"{BODIES} of {told}", "tools/gate-minutes.py", BODIES, "--after-ci", "--minutes", minutes, *few, *names)
 
     def sum_up(self):
         """Prints what each step took, which looked at nothing, which failed, and the sum; returns whether the gate is passed."""
@@ -151,6 +202,63 @@ class Gate:
             print(f"gate: failed: {', '.join(self.lost)}")
         print(f"{self.passed} passed, {self.failed} failed", flush=True)
         return self.failed == 0 and self.passed > 0
+
+
+class Step(typing.NamedTuple):
+    """A step that may run beside `rt ci`: how many crates may be left to prove when it begins, the memory that it needs, and what runs it in so many lanes."""
+    crates: int
+    memory: int
+    run: typing.Callable
+
+
+class Early:
+    """Steps that need nothing of the crates that are still under proof: a thread runs them one at a time, from when few crates are left until `rt ci` ends."""
+
+    def __init__(self, steps, crates):
+        self.left, self.crates, self.is_over, self.turn = list(steps), crates, False, threading.Lock()
+        self.worker = threading.Thread(target=self.work)
+
+    def hear(self, line):
+        """Takes a line of `rt ci`, and begins once few crates are left."""
+        self.crates -= bool(PROVED.fullmatch(line))
+        if self.crates <= LAST_CRATES and not self.worker.ident:
+            self.worker.start()
+
+    def work(self):
+        while not self.is_over and self.left:
+            with self.turn:
+                may_begin = not self.is_over and self.crates <= self.left[0].crates and free_memory() >= self.left[0].memory
+                step = self.left.pop(0) if may_begin else None
+            if step:
+                step.run(1)
+            else:
+                time.sleep(1)
+
+    def is_working(self):
+        return self.worker.is_alive()
+
+    def stop(self):
+        """Begins no more steps, and returns those that did not begin. The last one may be under way."""
+        with self.turn:
+            self.is_over = True
+        return self.left
+
+    def wait(self):
+        if self.worker.ident:
+            self.worker.join()
+
+
+def crates():
+    """Returns the names of the tree's crates."""
+    with open(f"{ROOT}/crates.txt", encoding="utf-8") as lines:
+        return [it.partition(":")[0] for it in lines if not it.startswith("#")]
+
+
+def free_memory():
+    """Returns the free memory, in bytes; 0 if the system does not tell. tests/gate.py names a file of its own."""
+    with contextlib.suppress(OSError), open(os.environ.get("MEMINFO", "/proc/meminfo"), encoding="utf-8") as lines:
+        return 1024 * int(re.search(r"MemAvailable:\s+(\d+)", lines.read())[1])
+    return 0
 
 
 def missing_tools():
@@ -180,7 +288,7 @@ def main():
     read = argparse.ArgumentParser(description=__doc__, formatter_class=argparse.RawDescriptionHelpFormatter)
     read.add_argument("--list", action="store_true")
     if read.parse_args().list:
-        print(*BESIDE.split(), *(f"alone {it}" for it in ALONE.split()), sep="\n")
+        print(*(f"early {it}" for it in EARLY.split()), *BESIDE.split(), *(f"alone {it}" for it in ALONE.split()), sep="\n")
         return 0
     if missing := missing_tools():
         print(f"gate: nothing was run: there is no {' and no '.join(missing)} here", f"gate: failed: {', '.join(missing)}", sep="\n")

@@ -7,6 +7,7 @@ import tempfile
 
 from . import ledger
 from .judge import bodies_of, say
+from .reach_test import wrong_sums
 from .sums import Sums
 from .trial import build_below, try_crate, try_over_holes
 
@@ -40,8 +41,9 @@ AT_ONCE = ("refused_by_its_shape_alone", "refused_the_callee", "refused_with_a_g
 # Those that are weak: they turn nothing, and are refused by a stale name, or by a loop without a measure.
 WEAK = ("refused_by_its_loop_alone", "refused_by_its_shape_alone")
 
-# Edits of a copy of the tree: of a file the old text and the new one, and which of two wrong bodies of shared_queue get another sum by it.
-ONE, BOTH = "queue_blocks_leaves_out_a_queue", "queue_blocks_leaves_out_a_queue look_tells_the_other_way"
+# Edits of a copy of the tree: of a file the old text, of which `` stands for its end, and the new one, and which of two wrong bodies of shared_queue get
+# another sum by it.
+ONE, OTHER, BOTH = "queue_blocks_leaves_out_a_queue", "look_tells_the_other_way", "queue_blocks_leaves_out_a_queue look_tells_the_other_way"
 SUMS = {
     "a comment": ("shared_queue/src/opening.rt", "/// Returns the locks of shared queues at boot", "/// Returns the locks at boot", ""),
     "a lemma of its own crate": ("shared_queue/proofs/Lib.antt", "pub mod OpeningLemmas", "mod OpeningLemmas", ""),
@@ -50,8 +52,12 @@ SUMS = {
     "the body of another function": ("shared_queue/src/opening.rt", "let mut number = 0u8;", "let mut number = 1u8;", ""),
     "its own body": ("shared_queue/src/opening.rt", "let kept = kept_homes(homes);", "let kept = homes;", ONE),
     "its own proof": ("shared_queue/proofs/opening/empty_queues/Answers.antt", "queues_more", "queues_other", ONE),
-    "a contract": ("shared_queue/src/opening.rt", "more ≤ BUFFERS", "more < BUFFERS", BOTH),
-    "a definition below": ("layer_traits/specs/Lib.antt", "pub mod Polling", "mod Polling", BOTH),
+    "its contract": ("shared_queue/src/opening.rt", "more ≤ BUFFERS", "more < BUFFERS", ONE),
+    "a trait that the other meets": ("layer_traits/src/layers.rt", "result ≡ is_inside self.now", "result ≡ true", OTHER),
+    "a constant below": ("event_log/src/ids.rt", "THREADS: usize = 256", "THREADS: usize = 255", BOTH),
+    "a function that is added below": ("event_log/src/ids.rt", "", "\npub fn new_one(t: Tid) -> bool\n    ensures { result ≡ true }\n{\n    true\n}\n", ""),
+    "a definition that is added below": ("event_log/specs/Runs.antt", "", "\nabbrev pub new_one : ℕ → ℕ\nnew_one n = n\n", ""),
+    "an impl for an added type": ("event_log/src/ids.rt", "", "\npub struct New;\n\nimpl Drop for New {\n    fn drop(self) {}\n}\n", ""),
 }
 SUM = "0123456789abcde"
 
@@ -75,7 +81,7 @@ def sums_are_right(lib, root, room):
 
     def sums(under="a logic and its rules"):
         crate = next(it for it in lib.crates_below(room) if it.name == "shared_queue")
-        told = Sums(lib, under).of(crate, bodies_of(crate, f"{crate.folder}/wrong"))
+        told = Sums(lib, under, [crate]).of(crate, bodies_of(crate, f"{crate.folder}/wrong"))
         return {name: told[f"shared_queue/{name}.edit"] for name in BOTH.split()}
 
     before = sums()
@@ -83,9 +89,9 @@ def sums_are_right(lib, root, room):
         path = f"{room}/crates/{file}"
         text = open(path, encoding="utf-8").read()
         with open(path, "w", encoding="utf-8") as it:
-            it.write(text.replace(old, new, 1))
+            it.write(text.replace(old, new, 1) if old else text + new)
         after = sums()
-        if text.count(old) == 0 or {it for it in before if before[it] != after[it]} != set(wanted.split()):
+        if old not in text or {it for it in before if before[it] != after[it]} != set(wanted.split()):
             yield f"the sums after an edit of {name}"
         with open(path, "w", encoding="utf-8") as it:
             it.write(text)
@@ -147,7 +153,7 @@ def run(lib, root):
     right = [name for name, words in VERDICTS.items() if name in of and ended(of[name], name, words)]
     wrong = sorted((VERDICTS.keys() | of.keys()) - set(right)) + lost_names(root)
     with tempfile.TemporaryDirectory() as room:
-        wrong += [*sums_are_right(lib, root, room), *ledger_is_right(room), *draws_are_right()]
+        wrong += [*sums_are_right(lib, root, room), *wrong_sums(lib, f"{room}/reach"), *ledger_is_right(room), *draws_are_right()]
     wrong += [] if forged_line_is_found(lib, crate, root) else ["a forged line of the ledger"]
     say(f"wrong-bodies: its own test: {len(right)} ended as they must{''.join(f', {it} did not' for it in wrong)}")
     print(f"{len(right)} passed, {len(wrong)} failed")

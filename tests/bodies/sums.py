@@ -8,52 +8,25 @@ import sys
 
 import imports
 
+from .items import Item, RustFile, Unread, in_one_line, items_of, without_comments, words_of
+from .reach import Reach
+
 # An import of definitions.
 IMPORT = re.compile(r"\s*((unfoldable )?(pub )?use [^:;]+|(pub )?ghost use [^;]+;)$")
-# The head of a function, and a line that tells the compiler or the prover something that no caller reads.
-FUNCTION = re.compile(r"( *)(?:pub(?:\([a-z]+\))? )?(?:unsafe )?fn ")
-HINT = re.compile(r"\s*#\[(inline|cold|tactic)\b.*\]$")
 # The files whose code decides what counts as refused.
 RULES = ("judge.py", "trial.py")
 
 
-def read_as_proved(path):
-    """Returns what the prover reads of a source file: no comments and no blank lines, and the imports that are side by side as a set."""
-    text = open(path, encoding="utf-8").read()
-    comment = "--" if path.endswith(".antt") else "// " if "clap" in text else "//"  # clap's `///` are words that the program prints
+def read_as_proved(text):
+    """Returns what the prover reads of a proof file: no comments and no blank lines, and the imports that are side by side as a set."""
     kept, imported = [], set()
-    for line in [*(it for it in text.split("\n") if it.strip() and not it.lstrip().startswith(comment)), ""]:
+    for line in [*without_comments(text, False), ""]:
         if IMPORT.match(line):
             found = imports.NAMES.match(line)
             imported.update([f"{found[1]}{found[2]} {'.'.join(steps)}" for steps in imports.names_of(found[3])] if found else [line])
         else:
             kept += [*sorted(imported), line]
             imported = set()
-    return "\n".join(kept)
-
-
-def without_bodies(text, keeps=lambda name, body: False):
-    """Returns the text of a source file without the bodies of its functions, except those that `keeps` is true of, and without hints to the compiler: what a
-    caller's proof reads of it. `rt fmt` lays a body out from a line that ends in its brace to a line that is the closing brace, both as deep as the function.
-    A `const fn` keeps its own, since a constant's value may come from it."""
-    kept, opens, ends, name, body = [], None, None, "", []
-    for line in text.split("\n"):
-        found = FUNCTION.match(line)
-        if ends is not None:
-            body.append(line)
-            if line == ends:
-                kept += body if keeps(name, "\n".join(body)) else []
-                ends = None
-            continue
-        if found:
-            opens, name = found[1], line[found.end() :].partition("(")[0].partition("<")[0]
-        head = line[len(opens) :] if opens is not None and line.startswith(opens) else "end"
-        if line.endswith("{") and (found or head[0] in "{)>"):
-            opens, ends, body = None, f"{opens}}}", []
-        elif not found and head[0] not in " )>" and head != "where":
-            opens = None
-        if not HINT.match(line):
-            kept.append(line)
     return "\n".join(kept)
 
 
@@ -77,46 +50,80 @@ def rules():
     return "\n".join(found)
 
 
+def read(path):
+    with open(path, encoding="utf-8") as it:
+        return it.read()
+
+
 class Sums:
-    """The sums of what verdicts on wrong bodies rest on, of the crates of one tree, under one kit and one set of rules."""
+    """The sums of what verdicts on wrong bodies of some crates rest on, under one kit and one set of rules."""
 
-    def __init__(self, lib, under):
-        self.lib, self.under, self.read = lib, under, {}
+    def __init__(self, lib, under, crates):
+        self.lib, self.under, self.wholes, self.proofs = lib, under, {}, {}
+        known = {it.name: it for crate in crates for it in [crate, *crate.below()]}
+        self.below = {name: [name, *(dep.name for dep in it.below())] for name, it in known.items()}
+        self.reach = Reach([item for name in sorted(known) for item in self.items_of(known[name])], self.below)
 
-    def told(self, crate):
-        """Returns of each file of a crate its name, what the prover reads of it, and that without bodies."""
-        if crate.name not in self.read:
-            files = [(os.path.relpath(it, crate.folder), read_as_proved(it)) for it in sorted(self.lib.files_of(crate.folder))]
-            self.read[crate.name] = [(name, text, without_bodies(text) if name.endswith(".rt") else text) for name, text in files]
-        return self.read[crate.name]
-
-    def below(self, crate):
-        """Returns the sum of the contracts and definitions of a crate and of all below it: a contract that a body breaks stays broken, however others keep
-        theirs, and by whatever lemmas."""
-        total = hashlib.sha256(self.under.encode())
-        for it in sorted([crate, *crate.below()], key=lambda it: it.name):
-            total.update(" ".join([it.name, *(dep.name for dep in it.deps), *it.of_kit]).encode())
-            for name, _, told in self.told(it):
-                if not name.startswith("proofs/"):
-                    total.update(f"{it.name}/{name}\0{told}".encode())
-        return total
+    def items_of(self, crate):
+        """Yields the items of a crate: its libraries by their names, of which `std` is named by no text, and what its sources and definitions declare. Notes
+        its proofs."""
+        for name in sorted([*crate.of_kit, *(dep.name for dep in crate.deps)]):
+            yield Item(crate.name, "crates.txt", name, frozenset({name} - {"std", "core"}))
+        for path in sorted(self.lib.files_of(crate.folder)):
+            file = os.path.relpath(path, crate.folder)
+            if file.startswith("proofs/"):
+                self.proofs.setdefault(crate.name, []).append((file, path))
+            else:
+                yield from items_of(crate.name, file, read(path), self.below[crate.name])
 
     def of(self, crate, bodies):
-        """Returns the sum of each of these bodies of a crate: of what is below, of the function that it turns, of its own proofs, and of the body."""
-        below, found = self.below(crate), {}
+        """Returns the sum of each of these bodies of a crate: of what it reaches, of the function that it turns, of its own proofs, and of the body."""
+        owns, parts, sums = {}, {}, {}
         for body in bodies:
-            total = below.copy()
-            for name, text in self.own(crate, body):
-                total.update(f"{name}\0{text}".encode())
-            total.update(open(body.file, "rb").read())
-            found[body.name()] = total.hexdigest()[:16]
+            key = (body.function, *(pair[:2] for pair in body.pairs))
+            if key not in owns:
+                own = [*self.own(crate, body)]
+                owns[key] = own, frozenset().union(*(words_of(text) for _, text in own))
+            edit = read(body.file)
+            reached = self.reached(crate, body, words_of(edit) | owns[key][1])
+            if reached not in parts:
+                parts[reached] = self.reach.sum(reached)
+            total = hashlib.sha256(f"{self.under}\0{crate.name}\0".encode() + parts[reached])
+            for name, text in owns[key][0]:
+                total.update(f"{name}\0{text}\0".encode())
+            total.update(edit.encode())
+            sums[body.name()] = total.hexdigest()[:16]
+        return sums
+
+    def reached(self, crate, body, words):
+        """Returns the items that a body with these words reaches from the files that it changes."""
+        found = 0
+        for file in sorted({at for at, _, _ in body.pairs}) or [""]:
+            found |= self.reach.of(crate.name, file, words)
         return found
 
+    def wholes_of(self, crate, file):
+        """Returns the parts of a file, each with the name of the function that it is; all in one where the file cannot be read."""
+        path = f"{crate.folder}/{file}"
+        if path not in self.wholes:
+            text = read(path) if os.path.isfile(path) else ""
+            try:
+                self.wholes[path] = [*RustFile(crate.name, file, text, self.below[crate.name]).wholes()], text
+            except Unread:
+                self.wholes[path] = [], text
+        return self.wholes[path]
+
     def own(self, crate, body):
-        """Yields the files of a crate with what is a body's own in them: the function that it turns, and that function's proofs."""
-        changed, olds, name = {at for at, _, _ in body.pairs}, [old for _, old, _ in body.pairs], body.function.rpartition("::")[2]
-        for file, text, _ in self.told(crate):
+        """Yields the files of a crate with what is a body's own in them: the function that it turns and what else it edits, and that function's proofs."""
+        name = body.function.rpartition("::")[2]
+        for file in sorted({at for at, _, _ in body.pairs}):
+            wholes, text = self.wholes_of(crate, file)
+            olds = [old for at, old, _ in body.pairs if at == file]
+            if all(any(old in whole for _, whole in wholes) for old in olds):
+                own = (whole for function, whole in wholes if function == name or any(old in whole for old in olds))
+                yield from ((file, in_one_line(whole)) for whole in own)
+            else:
+                yield file, in_one_line("\n".join(without_comments(text, True)))  # it edits what is no part of an item
+        for file, path in self.proofs.get(crate.name, []):
             if file.startswith(f"proofs/{body.function.replace('::', '/')}/"):
-                yield file, text
-            elif file in changed:
-                yield file, without_bodies(text, lambda it, inside: it == name or any(old in inside for old in olds))
+                yield file, read_as_proved(read(path))
