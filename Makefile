@@ -15,7 +15,7 @@ try:  ## builds without proofs, and runs PLAN=plans/one-send.toml; two minutes o
 test:  ## builds without proofs, and runs all plans and rows; about five minutes
 	@tests/rows.sh
 
-prove:  ## proves and builds the program; half an hour on 4 cores
+prove:  ## proves and builds the program; 22 minutes on 4 cores
 	@tools/prove-all.py
 
 run:  ## runs PLAN=plans/one-send.toml by the proved program, which `make prove` leaves
