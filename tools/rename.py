@@ -6,11 +6,13 @@ the names of its types and traits.
 
 A line of the table is `old new`, and # starts a comment. `old` is a whole name, or with a ~ before it one word of names: `~berth` is in `own_berth` but
 not in `berths`, and `~Berth` in `IsBerth`. A whole name has priority over a word, and nothing is renamed twice. In comments and docs a name is renamed
-only if it cannot be prose: with `_` or a second capital in it, or between backticks. Paths after `new` limit the line to files whose paths begin with one
-of them (`doing under_way crates/cpu/ crates/mctower/src/main.rt`); such a line has priority over one for all files.
+only if it cannot be prose: with `_` or a second capital in it, or between backticks. A string is what the program prints: only what stands there between
+braces is a name. The prover's own set of search rules is named `rules`: that name stays. Paths after `new` limit the line to files whose paths begin with
+one of them (`doing under_way crates/cpu/ crates/mctower/src/main.rt`); such a line has priority over one for all files.
 
-Without --apply it changes nothing. It prints each new name that exists already, because two names would become one, and each line of prose that
-still has an old word.
+Without --apply it changes nothing. It prints each new name that exists already, because two names would become one, and each line of prose that still has
+an old word. With --apply it also writes into tests/names.txt what it renamed in crates/: a rename changes no verdict, so that the ledger of mutants reads
+each text by the names under which its sums were taken (docs/GATE.md).
 """
 import argparse
 import collections
@@ -20,46 +22,95 @@ import subprocess
 import sys
 
 ROOT = os.path.dirname(os.path.dirname(os.path.realpath(__file__)))
+# The names under which the sums of the ledger were taken: a line `new old`, with the paths to which it is limited.
+TAKEN = "tests/names.txt"
 CODE = (".rt", ".antt", ".edit")
 DOCS = (".md", ".sh", ".py", ".toml", ".sums")
+# Sources with other endings: templates of a crate, tests of layers, and lists of functions.
+TEMPLATES, TESTS, LISTS = (".rt.in", ".antt.in"), "tests/layers/src/", ("tests/no-wrong-body.txt",)
 NAME = re.compile(r"[A-Za-z][A-Za-z0-9_]*")
 WORDS = re.compile(r"_+|[A-Z]+(?![a-z])|[A-Z][a-z0-9]*|[a-z0-9]+|.")
-COMMENT = {".rt": re.compile(r"//.*"), ".antt": re.compile(r"(?<!\S)-- .*")}
+COMMENT = {".rt": r"//[^\n]*|/\*.*?\*/", ".antt": r"(?<!\S)-- [^\n]*"}
+STRING = r"""\bb?r(?P<mark>#*)".*?"(?P=mark)|"(?:\\.|[^"\\])*"|(?<![\w'])b?'(?:\\[^']+|[^\\'\n])'"""
+# Where `rules` is the prover's: among the names of its library, and as what it searches with.
+OF_KIT = r"\bCommon\.(?:\{[^{}]*\}|\w+)|\bsearch \(?rules\b"
+IN_BRACES = re.compile(r"(?<=\{)[A-Za-z][A-Za-z0-9_]*")
+# What is no plain code, by the ending of its file.
+OTHERS = {
+    ".rt": re.compile(f"(?P<comment>{COMMENT['.rt']})|(?P<string>{STRING})|(?P<kit>{OF_KIT})", re.S),
+    ".antt": re.compile(rf'(?P<comment>{COMMENT[".antt"]})|(?P<string>"(?:\\.|[^"\\\n])*")|(?P<kit>{OF_KIT})'),
+}
+# A name of code in prose: one in a path.
+IN_PATH = re.compile(r"(?<=::)[A-Za-z]\w*|\b[A-Za-z]\w*(?=::)")
+
+
+class Unfit(Exception):
+    """A table in which a name has two others, or in which a line is none."""
 
 
 class Table:
     """What is renamed: whole names, and words of names."""
 
-    def __init__(self, path):
-        self.lines = []
-        for line in open(path, encoding="utf-8"):
+    def __init__(self, text, names=None):
+        self.lines, self.names = [], names or Names
+        for line in text.splitlines():
             found = line.split("#")[0].split()
             if len(found) == 1:
-                sys.exit(f"rename: no line `old new`: {line.strip()}")
+                raise Unfit(f"no line `old new`: {line.strip()}")
             if found:
                 self.lines.append((found[0], found[1], tuple(found[2:])))
+        self.made = {}
 
     def at(self, path):
         """Returns what is renamed in one file."""
-        found = Names()
-        for limited in (False, True):
-            for old, new, within in self.lines:
-                if bool(within) == limited and (not within or path.startswith(within)):
-                    (found.word if old[0] == "~" else found.whole)[old.lstrip("~")] = new
+        own = tuple(line for line in self.lines if not line[2] or path.startswith(line[2]))
+        if own not in self.made:
+            self.made[own] = self.names(sorted(own, key=lambda it: bool(it[2])))
+        return self.made[own]
+
+    def turned(self):
+        """Returns the table that takes each second name to the first; only for tables of whole names."""
+        found = Table("")
+        found.lines = [(two, one, within) for one, two, within in self.lines]
         return found
 
 
 class Names:
     """What is renamed in one file: whole names, and words of names."""
 
-    def __init__(self):
-        self.whole, self.word = {}, {}
+    def __init__(self, lines):
+        self.whole, self.word, self.known = {}, {}, {}
+        for old, new, _ in lines:
+            (self.word if old[0] == "~" else self.whole)[old.lstrip("~")] = new
 
     def of(self, name):
-        return self.whole.get(name) or "".join(self.word.get(it, it) for it in WORDS.findall(name))
+        if name not in self.known:
+            self.known[name] = self.whole.get(name) or "".join(self.word.get(it, it) for it in WORDS.findall(name))
+        return self.known[name]
 
     def olds(self):
         return {*self.whole, *self.word}
+
+    def in_code(self, text):
+        return NAME.sub(lambda it: self.of(it[0]), text)
+
+    def in_prose(self, text):
+        parts = re.split(r"(`[^`]*`)", text)
+        return "".join(self.in_code(it) if at % 2 else self.in_words(it) for at, it in enumerate(parts))
+
+    def in_words(self, text):
+        text = IN_PATH.sub(lambda it: self.of(it[0]), text)
+        return NAME.sub(lambda it: it[0] if self.is_prose(it[0]) else self.of(it[0]), text)
+
+    def is_prose(self, name):
+        return is_plain(name)
+
+
+class Back(Names):
+    """Takes the names of one file back. Whether one may be prose is said of the old one, as when it was renamed."""
+
+    def is_prose(self, name):
+        return is_plain(self.of(name))
 
 
 def is_plain(name):
@@ -67,39 +118,59 @@ def is_plain(name):
     return "_" not in name and not re.search(r"[a-z0-9][A-Z]", name)
 
 
-def renamed(table, text, ending):
+def kind_of(path):
+    """Returns how a file is read: as `.rt`, `.antt`, `.edit`, or as prose; None if nothing in it is renamed."""
+    if path.endswith(TEMPLATES):
+        return os.path.splitext(path[:-3])[1]
+    if path.startswith(TESTS) and path.endswith(".rs"):
+        return ".rt"
+    ending = os.path.splitext(path)[1]
+    return ending if ending in CODE else ".md" if ending in DOCS or path in LISTS else None
+
+
+def renamed(names, text, kind):
     """Returns a text with its names renamed, those of its prose only where they can be no words of it."""
-    said = COMMENT.get(ending)
-
-    def in_code(piece):
-        return NAME.sub(lambda it: table.of(it[0]), piece)
-
-    def in_prose(piece):
-        parts = re.split(r"(`[^`]*`)", piece)
-        return "".join(in_code(it) if at % 2 else NAME.sub(lambda w: w[0] if is_plain(w[0]) else table.of(w[0]), it) for at, it in enumerate(parts))
-
-    if ending in DOCS:
-        return in_prose(text)
-    lines = text.split("\n")
-    for at, line in enumerate(lines):
-        found = said and said.search(line)
-        start = found.start() if found else len(line)
-        lines[at] = in_code(line[:start]) + in_prose(line[start:])
-    return "\n".join(lines)
+    if kind not in OTHERS:
+        return names.in_prose(text)
+    found, at = [], 0
+    for it in OTHERS[kind].finditer(text):
+        found.append(names.in_code(text[at : it.start()]))
+        if it["comment"]:
+            found.append(names.in_prose(it[0]))
+        else:
+            found.append(IN_BRACES.sub(lambda name: names.of(name[0]), it[0]) if it["string"] else it[0])
+        at = it.end()
+    return "".join([*found, names.in_code(text[at:])])
 
 
-def scope(path, text):
-    """Returns the path by which lines of the table are limited: a wrong body has the names of the file that it edits."""
-    edits = re.search(r"^file: (\S+)", text, re.M) if path.endswith(".edit") else None
-    return "/".join(path.split("/")[:2] + [edits[1]]) if edits else path
+def renamed_edit(table, path, text):
+    """Returns the text of an edit with its names renamed: each of its pairs by the file that it edits."""
+    lines, folder = text.split("\n"), "/".join(path.split("/")[:2])
+    first = next((it[6:].strip() for it in lines if it.startswith("file: ")), "")
+    names, found = table.at(f"{folder}/{first}"), []
+    for line in lines:
+        if line.startswith("file: "):
+            names = table.at(f"{folder}/{line[6:].strip()}")
+            found.append("file: " + new_path(names, f"{folder}/{line[6:].strip()}")[len(folder) + 1 :])
+        else:
+            head, mark, rest = line.partition(": ")
+            is_pair = mark and head in ("old", "new", "fn", "refused")
+            found.append(head + mark + renamed(names, rest, ".rt") if is_pair else renamed(names, line, ".rt"))
+    return "\n".join(found)
+
+
+def renamed_file(table, path, text):
+    """Returns the text of a file with its names renamed."""
+    kind = kind_of(path)
+    return renamed_edit(table, path, text) if kind == ".edit" else renamed(table.at(path), text, kind)
 
 
 def files():
     listed = subprocess.run(["git", "ls-files"], cwd=ROOT, stdout=subprocess.PIPE, text=True, check=True).stdout
-    return [it for it in listed.split("\n") if it.endswith(CODE + DOCS) and os.path.exists(f"{ROOT}/{it}")]
+    return [it for it in listed.split("\n") if kind_of(it) and os.path.exists(f"{ROOT}/{it}")]
 
 
-def new_path(table, path):
+def new_path(names, path):
     """Returns a path with its names renamed below crates/NAME, where folders and files bear them; an edit keeps its name."""
     parts = path.split("/")
     if parts[0] != "crates" or path.endswith(".edit"):
@@ -107,9 +178,27 @@ def new_path(table, path):
 
     def new(part):
         name, point, rest = part.partition(".")
-        return f"{table.of(name)}.{rest}" if point else NAME.sub(lambda it: table.of(it[0]), part)
+        return f"{names.of(name)}.{rest}" if point else names.in_code(part)
 
     return "/".join([*parts[:2], *map(new, parts[2:])])
+
+
+def taken(table, into, known):
+    """Returns the lines of tests/names.txt after a rename of what is in `into`, for each file of crates/ its names, on top of the lines that it had."""
+    old_of = {(new, within): old for new, old, within in known.lines}
+    found = {}
+    for old, new, within in table.lines:
+        names = {it for path, names in into.items() if not within or path.startswith(within) for it in names}
+        pairs = [(old, new)] if old[0] != "~" else [(it, table.at(path_of(within)).of(it)) for it in sorted(names)]
+        for one, other in pairs:
+            if one in names and one != other:
+                found[other, within] = old_of.pop((one, within), one)
+    found |= old_of
+    return sorted(" ".join((new, old, *within)) for (new, within), old in found.items() if new != old)
+
+
+def path_of(within):
+    return within[0] if within else "crates/"
 
 
 def main():
@@ -117,21 +206,25 @@ def main():
     read.add_argument("--apply", action="store_true")
     read.add_argument("table")
     given = read.parse_args()
-    table, texts = Table(given.table), {}
-    for it in files():
-        texts[it] = open(f"{ROOT}/{it}", encoding="utf-8").read()
-    into = collections.defaultdict(collections.Counter)
+    try:
+        table, known = Table(read_text(given.table)), Table(read_text(f"{ROOT}/{TAKEN}"))
+    except Unfit as error:
+        sys.exit(f"rename: {error}")
+    texts = {it: read_text(f"{ROOT}/{it}") for it in files()}
+    into, names_of = collections.defaultdict(collections.Counter), {}
     for path, text in texts.items():
-        if path.endswith(CODE):
-            here = table.at(scope(path, text))
-            for name in NAME.findall(text):
+        if kind_of(path) in OTHERS:
+            names_of[path] = {*NAME.findall(text)}
+            here = table.at(path)
+            for name in names_of[path]:
                 into[here.of(name)][name] += 1
     for new, olds in sorted(into.items()):
         if len(olds) > 1:
             print(f"two names become one: {', '.join(f'{it} ({olds[it]})' for it in sorted(olds))} -> {new}")
+    if given.apply:
+        lines = taken(table, {path: names for path, names in names_of.items() if path.startswith("crates/")}, known)
     for path, text in texts.items():
-        here = table.at(scope(path, text))
-        made = renamed(here, text, os.path.splitext(path)[1])
+        made, here = renamed_file(table, path, text), table.at(path)
         if here.olds():
             old_word = re.compile(rf"\b({'|'.join(sorted(map(re.escape, here.olds())))})\b")
             for at, line in enumerate(made.split("\n"), 1):
@@ -145,6 +238,17 @@ def main():
             if made != text:
                 with open(f"{ROOT}/{to}", "w", encoding="utf-8") as it:
                     it.write(made)
+    if given.apply:
+        with open(f"{ROOT}/{TAKEN}", "w", encoding="utf-8") as it:
+            it.writelines(f"{line}\n" for line in lines)
+
+
+def read_text(path):
+    try:
+        with open(path, encoding="utf-8") as it:
+            return it.read()
+    except FileNotFoundError:
+        return ""
 
 
 if __name__ == "__main__":

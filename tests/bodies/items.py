@@ -11,6 +11,7 @@ import imports
 
 # A comment, a string or a character, in which brackets and semicolons mean nothing. A quote behind a letter is the prime of a name.
 OPAQUE = re.compile(r"""//[^\n]*|/\*.*?\*/|\bb?r(#*)".*?"\1|"(?:\\.|[^"\\])*"|(?<![\w'])b?'(?:\\[^']+|[^\\'\n])'""", re.S)
+STRING = re.compile(r"""\bb?r(#*)".*?"\1|"(?:\\.|[^"\\])*"|(?<![\w'])b?'(?:\\[^']+|[^\\'\n])'""", re.S)
 RUST_WORD = re.compile(r"\w+")
 ANTT_WORD = re.compile(r'[^\s(){}.;,@"«»]+')
 # A module in a path of Rust, and a name of the prover that has its whole path.
@@ -82,11 +83,27 @@ def in_one_line(text):
     return re.sub(r"[ \t]*\n\s*", " ", text)
 
 
+def code_in_one_line(text):
+    """Returns code in one line, as if `rt fmt` had broken none: it ends the last part of a bracket that it breaks with a comma, and breaks before a point."""
+    found, at = [], 0
+    for it in STRING.finditer(text):
+        found += [unbroken(text[at : it.start()]), it[0]]
+        at = it.end()
+    return in_one_line("".join([*found, unbroken(text[at:])]))
+
+
+def unbroken(code):
+    """Returns code that is in no string, with no line break next to a bracket or a point."""
+    code = re.sub(r"([(\[{<])[ \t]*\n\s*", r"\1", re.sub(r",?[ \t]*\n\s*([)\]}>])", r"\1", code))
+    return re.sub(r"([(\[{]) +", r"\1", re.sub(r" +([)\]}])", r"\1", re.sub(r"[ \t]*\n\s*\.(?!\.)", ".", code)))
+
+
 def without_layout(text, is_code):
     """Returns what others read of a file in one line. `rt fmt` ends the last field of a record that is broken into lines with a semicolon, and in definitions
     the last part of each bracket with a comma: these are left out. A function's body, in which they mean something, is no such text."""
-    line = in_one_line(text)
-    return line.replace("; }", " }") if is_code else re.sub(r"([({]) ", r"\1", re.sub(r"[,;]? ?([)}])", r"\1", line))
+    if is_code:
+        return code_in_one_line(text).replace(";}", "}")
+    return re.sub(r"([({]) ", r"\1", re.sub(r"[,;]? ?([)}])", r"\1", in_one_line(text)))
 
 
 def blanked(lines):

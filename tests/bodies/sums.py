@@ -7,8 +7,9 @@ import subprocess
 import sys
 
 import imports
+import rename
 
-from .items import Item, RustFile, Unread, in_one_line, items_of, without_comments, words_of
+from .items import Item, RustFile, Unread, code_in_one_line, items_of, without_comments, words_of
 from .reach import Reach
 
 # An import of definitions.
@@ -18,7 +19,7 @@ RULES = ("judge.py", "trial.py")
 
 
 def read_as_proved(text):
-    """Returns what the prover reads of a proof file: no comments and no blank lines, and the imports that are side by side as a set."""
+    """Returns what the prover reads of a proof file: no comments, no blank lines and no broken lines, and the imports that are side by side as a set."""
     kept, imported = [], set()
     for line in [*without_comments(text, False), ""]:
         if IMPORT.match(line):
@@ -27,7 +28,7 @@ def read_as_proved(text):
         else:
             kept += [*sorted(imported), line]
             imported = set()
-    return "\n".join(kept)
+    return re.sub(r"[ \t]*\n[ \t]+", " ", "\n".join(kept))
 
 
 def logic():
@@ -55,11 +56,66 @@ def read(path):
         return it.read()
 
 
-class Sums:
-    """The sums of what verdicts on wrong bodies of some crates rest on, under one kit and one set of rules."""
+class Ambiguous(Exception):
+    """A name in a text that tests/names.txt does not take back in one way."""
 
-    def __init__(self, lib, under, crates):
+
+class Taken:
+    """The names under which the sums were taken: tests/names.txt has for each name of today the one that it replaced. Each text and each path is read by those,
+    so that a rename changes no sum. This is exact as long as renaming the text that was read gives the text again: no two texts are then read alike."""
+
+    def __init__(self, text):
+        try:
+            self.back = rename.Table(text, rename.Back)
+        except rename.Unfit as error:
+            raise Ambiguous(error) from error
+        self.forth = self.back.turned()
+        for lines in (self.back.lines, self.forth.lines):
+            seen = set()
+            for one, _, within in lines:
+                if (one, within) in seen:
+                    raise Ambiguous(f"two lines for {one}")
+                seen.add((one, within))
+        self.limited = [(new, within) for new, _, within in self.back.lines if within]
+
+    def path(self, path):
+        return rename.new_path(self.back.at(path), path)
+
+    def text(self, path, text):
+        """Returns the text of a file by the names under which the sums were taken."""
+        if not self.back.lines:
+            return text
+        found = rename.renamed_file(self.back, path, text)
+        again = rename.renamed_file(self.forth, path, found)
+        if again != text:
+            pair = next(it for it in zip(rename.NAME.findall(text), rename.NAME.findall(again)) if it[0] != it[1])
+            raise Ambiguous(f"{path}: {pair[0]} is an old name, today's is {pair[1]}")
+        if self.limited and not path.endswith(".edit"):
+            here = self.back.at(path).whole
+            names = {new for new, within in self.limited if not path.startswith(within) and new not in here}
+            for it in sorted(names.intersection(rename.NAME.findall(text))):
+                raise Ambiguous(f"{path}: {it} is the name of another file's")
+        return found
+
+    def piece(self, path, text):
+        """Returns a piece of a file's text by those names."""
+        return rename.renamed(self.back.at(path), text, ".rt")
+
+
+TAKEN = f"{os.path.dirname(os.path.dirname(os.path.realpath(__file__)))}/names.txt"
+
+
+def taken(path=TAKEN):
+    """Returns the names under which the sums were taken; today's where there is no such file."""
+    return Taken(read(path) if os.path.isfile(path) else "")
+
+
+class Sums:
+    """The sums of what verdicts on wrong bodies of some crates rest on, under one kit, one set of rules, and the names under which they were taken."""
+
+    def __init__(self, lib, under, crates, names=None):
         self.lib, self.under, self.wholes, self.proofs = lib, under, {}, {}
+        self.names = names or taken()
         known = {it.name: it for crate in crates for it in [crate, *crate.below()]}
         self.below = {name: [name, *(dep.name for dep in it.below())] for name, it in known.items()}
         self.reach = Reach([item for name in sorted(known) for item in self.items_of(known[name])], self.below)
@@ -69,12 +125,20 @@ class Sums:
         its proofs."""
         for name in sorted([*crate.of_kit, *(dep.name for dep in crate.deps)]):
             yield Item(crate.name, "crates.txt", name, frozenset({name} - {"std", "core"}))
-        for path in sorted(self.lib.files_of(crate.folder)):
-            file = os.path.relpath(path, crate.folder)
+        for file, path in sorted((self.file(crate, it), it) for it in self.lib.files_of(crate.folder)):
             if file.startswith("proofs/"):
                 self.proofs.setdefault(crate.name, []).append((file, path))
             else:
-                yield from items_of(crate.name, file, read(path), self.below[crate.name])
+                yield from items_of(crate.name, file, self.text(crate, path), self.below[crate.name])
+
+    def file(self, crate, path):
+        """Returns the name of a crate's file under which sums were taken."""
+        return self.names.path(f"crates/{crate.name}/{os.path.relpath(path, crate.folder)}").partition(f"{crate.name}/")[2]
+
+    def text(self, crate, path):
+        """Returns the text of a crate's file, or of an edit of it, by the names under which sums were taken."""
+        inside = f"wrong/{os.path.basename(path)}" if path.endswith(".edit") else os.path.relpath(path, crate.folder)
+        return self.names.text(f"crates/{crate.name}/{inside}", read(path))
 
     def of(self, crate, bodies):
         """Returns the sum of each of these bodies of a crate: of what it reaches, of the function that it turns, of its own proofs, and of the body."""
@@ -84,7 +148,7 @@ class Sums:
             if key not in owns:
                 own = [*self.own(crate, body)]
                 owns[key] = own, frozenset().union(*(words_of(text) for _, text in own))
-            edit = read(body.file)
+            edit = self.text(crate, body.file)
             reached = self.reached(crate, body, words_of(edit) | owns[key][1])
             if reached not in parts:
                 parts[reached] = self.reach.sum(reached)
@@ -98,7 +162,7 @@ class Sums:
     def reached(self, crate, body, words):
         """Returns the items that a body with these words reaches from the files that it changes."""
         found = 0
-        for file in sorted({at for at, _, _ in body.pairs}) or [""]:
+        for file in sorted({self.file(crate, f"{crate.folder}/{at}") for at, _, _ in body.pairs}) or [""]:
             found |= self.reach.of(crate.name, file, words)
         return found
 
@@ -106,7 +170,7 @@ class Sums:
         """Returns the parts of a file, each with the name of the function that it is; all in one where the file cannot be read."""
         path = f"{crate.folder}/{file}"
         if path not in self.wholes:
-            text = read(path) if os.path.isfile(path) else ""
+            text = self.text(crate, path) if os.path.isfile(path) else ""
             try:
                 self.wholes[path] = [*RustFile(crate.name, file, text, self.below[crate.name]).wholes()], text
             except Unread:
@@ -115,15 +179,16 @@ class Sums:
 
     def own(self, crate, body):
         """Yields the files of a crate with what is a body's own in them: the function that it turns and what else it edits, and that function's proofs."""
-        name = body.function.rpartition("::")[2]
-        for file in sorted({at for at, _, _ in body.pairs}):
-            wholes, text = self.wholes_of(crate, file)
-            olds = [old for at, old, _ in body.pairs if at == file]
+        function = self.names.piece(f"crates/{crate.name}/{body.pairs[0][0] if body.pairs else ''}", body.function)
+        name = function.rpartition("::")[2]
+        for file, at in sorted((self.file(crate, f"{crate.folder}/{it}"), it) for it in {at for at, _, _ in body.pairs}):
+            wholes, text = self.wholes_of(crate, at)
+            olds = [self.names.piece(f"crates/{crate.name}/{at}", old) for it, old, _ in body.pairs if it == at]
             if all(any(old in whole for _, whole in wholes) for old in olds):
                 own = (whole for function, whole in wholes if function == name or any(old in whole for old in olds))
-                yield from ((file, in_one_line(whole)) for whole in own)
+                yield from ((file, code_in_one_line(whole)) for whole in own)
             else:
-                yield file, in_one_line("\n".join(without_comments(text, True)))  # it edits what is no part of an item
+                yield file, code_in_one_line("\n".join(without_comments(text, True)))  # it edits what is no part of an item
         for file, path in self.proofs.get(crate.name, []):
-            if file.startswith(f"proofs/{body.function.replace('::', '/')}/"):
-                yield file, read_as_proved(read(path))
+            if file.startswith(f"proofs/{function.replace('::', '/')}/"):
+                yield file, read_as_proved(self.text(crate, path))
