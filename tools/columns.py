@@ -1,5 +1,6 @@
 #!/usr/bin/env python3
-"""Lays out definitions and clauses in lines of at most 100 columns: each .antt file of specs, and the clauses of each .rt file.
+"""Lays out definitions and clauses in lines of at most 100 columns: each .antt file of specs, and the clauses of each .rt file. Proofs, and what else is
+ghost, may have lines of 160.
 
     tools/columns.py            names each longer line; status 1 if there is one
     tools/columns.py --apply    breaks them, at the outermost operator or argument
@@ -15,7 +16,7 @@ from pathlib import Path
 sys.dont_write_bytecode = True
 
 ROOT = Path(__file__).resolve().parent.parent
-WIDTH = 100
+WIDTH, WIDTH_OF_PROOFS = 100, 160
 # The least column at which a line is broken, so that no line holds one word only.
 LEAST = 28
 OPERATORS = {"→": 1, "⊎": 2, "×": 3, "↔": 3, "&&": 4, "||": 4, "≡": 5, "≢": 5, "≤": 5, "<": 5, "∙": 5, "++": 6, "∷": 6, "+": 7, "-": 7, "*": 7}
@@ -59,13 +60,13 @@ def breaks_of(line, base):
             yield inside - base, SPACE + last.endswith("."), at
 
 
-def broken(line, more, base):
-    """Returns a line in lines of at most WIDTH columns, each behind the first with `more` columns before it; or the line as it is, where it has no good
+def broken(line, more, base, width=WIDTH):
+    """Returns a line in lines of at most `width` columns, each behind the first with `more` columns before it; or the line as it is, where it has no good
     break."""
-    if len(line) <= WIDTH:
+    if len(line) <= width:
         return [line]
     indent = len(line) - len(line.lstrip())
-    found = [it for it in breaks_of(line, base) if indent + 4 < it[2] <= WIDTH + 1]
+    found = [it for it in breaks_of(line, base) if indent + 4 < it[2] <= width + 1]
     far = [it for it in found if it[2] >= LEAST or it[1] == 0]
     if not found:
         return [line]
@@ -73,19 +74,19 @@ def broken(line, more, base):
     rest = " " * more + line[at:]
     if len(rest) >= len(line):
         return [line]
-    return [line[:at].rstrip(), *broken(rest, more, 0)]
+    return [line[:at].rstrip(), *broken(rest, more, 0, width)]
 
 
-def definitions(text):
+def definitions(text, width=WIDTH):
     """Returns the text of a file of definitions, laid out."""
     found = []
     for line in text.split("\n"):
         indent = len(line) - len(line.lstrip())
-        if len(line) <= WIDTH or line.lstrip().startswith(("--", "use ", "pub use ", "unfoldable ")):
+        if len(line) <= width or line.lstrip().startswith(("--", "use ", "pub use ", "unfoldable ")):
             found.append(line)
         else:
             more = indent + 4 if indent == 0 or BEGINS.match(line.strip()) else indent
-            found += broken(line, more, 0)
+            found += broken(line, more, 0, width)
     return "\n".join(found)
 
 
@@ -96,7 +97,8 @@ def clauses(text):
         if depth == 0 and CLAUSE.match(line):
             more, is_first = len(line) - len(line.lstrip()) + 4, True
         elif depth == 0:
-            found.append(line)
+            is_ghost = line.lstrip().startswith("ghost ") and not line.lstrip().startswith("ghost use")
+            found += broken(line, len(line) - len(line.lstrip()) + 4, 1, WIDTH_OF_PROOFS) if is_ghost else [line]
             continue
         bare = re.sub(r'"[^"]*"', '""', line)
         found += broken(line, more, 1 if is_first else 0)
@@ -108,18 +110,22 @@ def clauses(text):
 def laid(path):
     """Returns the text of a file, and the text laid out."""
     text = path.read_text(encoding="utf-8")
-    return text, definitions(text) if path.suffix == ".antt" else clauses(text)
+    return text, clauses(text) if path.suffix == ".rt" else definitions(text, width_of(path))
+
+
+def width_of(path):
+    return WIDTH if "specs" in path.parts else WIDTH_OF_PROOFS
 
 
 def long_lines(path, text):
-    """Yields the numbers of the lines of definitions and clauses that are too long."""
+    """Yields the numbers of the lines that are too long."""
     is_clause, depth = path.suffix == ".antt", 0
     for number, line in enumerate(text.split("\n"), 1):
         if path.suffix == ".rt":
             is_clause = depth > 0 or bool(CLAUSE.match(line))
             bare = re.sub(r'"[^"]*"', '""', line)
             depth = depth + bare.count("{") - bare.count("}") if is_clause else 0
-        if is_clause and len(line) > WIDTH:
+        if len(line) > (width_of(path) if path.suffix == ".antt" else WIDTH if is_clause else WIDTH_OF_PROOFS):
             yield number
 
 
@@ -130,14 +136,14 @@ def main():
     given = read.parse_args()
     folders = [ROOT / "crates" / it for it in given.crates] or sorted((ROOT / "crates").iterdir())
     passed = failed = 0
-    for path in sorted(it for folder in folders for it in [*folder.glob("specs/**/*.antt"), *folder.glob("src/**/*.rt")]):
+    for path in sorted(it for folder in folders for it in [*folder.glob("specs/**/*.antt"), *folder.glob("proofs/**/*.antt"), *folder.glob("src/**/*.rt")]):
         old, new = laid(path)
         if given.apply and new != old:
             path.write_text(new, encoding="utf-8")
         longer = [*long_lines(path, new if given.apply else old)]
         passed, failed = passed + (not longer), failed + bool(longer)
         for number in longer:
-            print(f"columns: {path.relative_to(ROOT)}:{number}: longer than {WIDTH} columns")
+            print(f"columns: {path.relative_to(ROOT)}:{number}: too long")
     print(f"columns: {passed} passed, {failed} failed")
     return 1 if failed else 0
 

@@ -6,7 +6,7 @@ the names of its types and traits.
 
 A line of the table is `old new`, and # starts a comment. `old` is a whole name, or with a ~ before it one word of names: `~berth` is in `own_berth` but
 not in `berths`, and `~Berth` in `IsBerth`. A whole name has priority over a word, and nothing is renamed twice. In comments and docs a name is renamed
-only if it cannot be prose: with `_` or a second capital in it, or between backticks. A string is what the program prints: only what stands there between
+only if it cannot be prose: with `_` or a second capital in it, or between backticks; in docs only if crates/ has it. A string is what the program prints: only what stands there between
 braces is a name. The prover's own set of search rules is named `rules`: that name stays. Paths after `new` limit the line to files whose paths begin with
 one of them (`doing under_way crates/cpu/ crates/mctower/src/main.rt`); such a line has priority over one for all files.
 
@@ -25,9 +25,10 @@ ROOT = os.path.dirname(os.path.dirname(os.path.realpath(__file__)))
 # The names under which the sums of the ledger were taken: a line `new old`, with the paths to which it is limited.
 TAKEN = "tests/names.txt"
 CODE = (".rt", ".antt", ".edit")
-DOCS = (".md", ".sh", ".py", ".toml", ".sums")
+DOCS, SCRIPTS = (".md",), (".sh", ".py", ".toml", ".sums")
 # Sources with other endings: templates of a crate, tests of layers, and lists of functions.
 TEMPLATES, TESTS, LISTS = (".rt.in", ".antt.in"), "tests/layers/src/", ("tests/no-wrong-body.txt",)
+OWN = "tools/rename.py"
 NAME = re.compile(r"[A-Za-z][A-Za-z0-9_]*")
 WORDS = re.compile(r"_+|[A-Z]+(?![a-z])|[A-Z][a-z0-9]*|[a-z0-9]+|.")
 COMMENT = {".rt": r"//[^\n]*|/\*.*?\*/", ".antt": r"(?<!\S)-- [^\n]*"}
@@ -91,6 +92,12 @@ class Names:
     def olds(self):
         return {*self.whole, *self.word}
 
+    def among(self, names):
+        """Returns what is renamed of these names."""
+        found = type(self)([])
+        found.whole = {it: self.of(it) for it in names if self.of(it) != it}
+        return found
+
     def in_code(self, text):
         return NAME.sub(lambda it: self.of(it[0]), text)
 
@@ -119,17 +126,19 @@ def is_plain(name):
 
 
 def kind_of(path):
-    """Returns how a file is read: as `.rt`, `.antt`, `.edit`, or as prose; None if nothing in it is renamed."""
+    """Returns how a file is read: as `.rt`, `.antt`, `.edit`, `.md`, or as a script, `.py`; None if nothing in it is renamed."""
     if path.endswith(TEMPLATES):
         return os.path.splitext(path[:-3])[1]
     if path.startswith(TESTS) and path.endswith(".rs"):
         return ".rt"
     ending = os.path.splitext(path)[1]
-    return ending if ending in CODE else ".md" if ending in DOCS or path in LISTS else None
+    return ending if ending in (*CODE, *DOCS) else ".md" if path in LISTS else ".py" if ending in SCRIPTS and path != OWN else None
 
 
 def renamed(names, text, kind):
     """Returns a text with its names renamed, those of its prose only where they can be no words of it."""
+    if kind == ".py":
+        return NAME.sub(lambda it: it[0] if is_plain(it[0]) else names.whole.get(it[0], it[0]), text)
     if kind not in OTHERS:
         return names.in_prose(text)
     found, at = [], 0
@@ -154,15 +163,17 @@ def renamed_edit(table, path, text):
             found.append("file: " + new_path(names, f"{folder}/{line[6:].strip()}")[len(folder) + 1 :])
         else:
             head, mark, rest = line.partition(": ")
-            is_pair = mark and head in ("old", "new", "fn", "refused")
-            found.append(head + mark + renamed(names, rest, ".rt") if is_pair else renamed(names, line, ".rt"))
+            is_code = mark and head in ("old", "new", "fn")
+            found.append(head + mark + renamed(names, rest, ".rt") if is_code else names.in_prose(line))
     return "\n".join(found)
 
 
-def renamed_file(table, path, text):
-    """Returns the text of a file with its names renamed."""
-    kind = kind_of(path)
-    return renamed_edit(table, path, text) if kind == ".edit" else renamed(table.at(path), text, kind)
+def renamed_file(table, path, text, in_crates=None):
+    """Returns the text of a file with its names renamed: in a page those that are `in_crates`."""
+    kind, names = kind_of(path), table.at(path)
+    if kind == ".edit":
+        return renamed_edit(table, path, text)
+    return renamed(names.among(in_crates) if kind == ".md" and in_crates is not None else names, text, kind)
 
 
 def files():
@@ -213,8 +224,9 @@ def main():
     texts = {it: read_text(f"{ROOT}/{it}") for it in files()}
     into, names_of = collections.defaultdict(collections.Counter), {}
     for path, text in texts.items():
-        if kind_of(path) in OTHERS:
+        if kind_of(path) in CODE:
             names_of[path] = {*NAME.findall(text)}
+        if kind_of(path) in OTHERS:
             here = table.at(path)
             for name in names_of[path]:
                 into[here.of(name)][name] += 1
@@ -223,8 +235,9 @@ def main():
             print(f"two names become one: {', '.join(f'{it} ({olds[it]})' for it in sorted(olds))} -> {new}")
     if given.apply:
         lines = taken(table, {path: names for path, names in names_of.items() if path.startswith("crates/")}, known)
+    in_crates = {it for path, names in names_of.items() if path.startswith("crates/") for it in names}
     for path, text in texts.items():
-        made, here = renamed_file(table, path, text), table.at(path)
+        made, here = renamed_file(table, path, text, in_crates), table.at(path)
         if here.olds():
             old_word = re.compile(rf"\b({'|'.join(sorted(map(re.escape, here.olds())))})\b")
             for at, line in enumerate(made.split("\n"), 1):

@@ -22,6 +22,7 @@ FUNCTION = re.compile(MARKS + r"(?:(?:const|unsafe|final) )*fn (\w+)")
 NAMED = re.compile(MARKS + r"(?:unsafe )?(?:(struct|enum|trait|type|const|static|mod) (?:mut )?|(macro_rules)! )(\w+)")
 IMPORT = re.compile(r"(unfoldable )?(pub(?:\([a-z: ]+\))? )?(?:ghost )?use ([^;]+);?$", re.S)
 IMPL = re.compile(r"(?:unsafe )?impl\b")
+PLAIN_MODULE = re.compile(MARKS + r"mod \w+;$")
 # A line that tells the compiler or the prover something that no caller reads.
 HINT = re.compile(r"\s*#\[(inline|cold|tactic)\b.*\]$")
 PATH = re.compile(r"(\w+)(?:<|$)")
@@ -406,7 +407,7 @@ def items_of(crate, file, text, parents):
     try:
         lines = without_comments(text, file.endswith(".rt"))
         found = RustFile(crate, file, text, parents).items if file.endswith(".rt") else definition_items(crate, file, lines)
-        return sorted(found, key=lambda it: it.text if IMPORT.match(it.text) else "")  # the layout of imports says nothing
+        return sorted(found, key=lambda it: it.text if IMPORT.match(it.text) or PLAIN_MODULE.match(it.text) else "")  # their layout says nothing
     except Unread:
         whole = "\n".join(lines)
         return [Item(crate, file, whole, frozenset(), words_of(whole))]

@@ -20,15 +20,20 @@ RULES = ("judge.py", "trial.py")
 
 def read_as_proved(text):
     """Returns what the prover reads of a proof file: no comments, no blank lines and no broken lines, and the imports that are side by side as a set."""
+    return re.sub(r"[ \t]*\n[ \t]+", " ", "\n".join(with_imports_as_sets(without_comments(text, False))))
+
+
+def with_imports_as_sets(lines):
+    """Returns these lines, and of imports of definitions that are side by side the sorted paths."""
     kept, imported = [], set()
-    for line in [*without_comments(text, False), ""]:
+    for line in [*lines, ""]:
         if IMPORT.match(line):
             found = imports.NAMES.match(line)
             imported.update([f"{found[1]}{found[2]} {'.'.join(steps)}" for steps in imports.names_of(found[3])] if found else [line])
         else:
             kept += [*sorted(imported), line]
             imported = set()
-    return re.sub(r"[ \t]*\n[ \t]+", " ", "\n".join(kept))
+    return kept
 
 
 def logic():
@@ -188,7 +193,8 @@ class Sums:
                 own = (whole for function, whole in wholes if function == name or any(old in whole for old in olds))
                 yield from ((file, code_in_one_line(whole)) for whole in own)
             else:
-                yield file, code_in_one_line("\n".join(without_comments(text, True)))  # it edits what is no part of an item
+                lines = with_imports_as_sets(without_comments(text, True))
+                yield file, code_in_one_line("\n".join(lines))  # it edits what is no part of an item
         for file, path in self.proofs.get(crate.name, []):
             if file.startswith(f"proofs/{function.replace('::', '/')}/"):
                 yield file, read_as_proved(self.text(crate, path))
