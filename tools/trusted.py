@@ -3,10 +3,10 @@
 
     tools/trusted.py            compares the table of docs/PROOF.md with what it counts; status 1 if a number differs or a definition is not named
     tools/trusted.py --write    puts the counted numbers into the tables
-    tools/trusted.py NAME..     prints of each definition, as cpu::HasOneOrder, its lines, and those of all that it depends on, file by file
+    tools/trusted.py NAME..     prints of each definition, as cpu::HasLinearization, its lines, and those of all that it depends on, file by file
 
 The section of a theorem names its clauses in a paragraph 'Clauses', as `table` of `cpu::System::run`, and in a paragraph 'Definitions' what they cite, as
-`cpu::HasOneOrder`, or a file of src, as `layer_traits/src/layers.rt`, for all that it cites. This script reads these clauses in the sources. A definition
+`cpu::HasLinearization`, or a file of src, as `layer_traits/src/layers.rt`, for all that it cites. This script reads these clauses in the sources. A definition
 that they cite, and that those of the section do not rest on, is told by name. The row of the theorem in the table has the number of lines of all these and
 of all definitions that they depend on, by name, in crates/*/specs: lines of 160 columns, with no comments and no imports. Its last number is what the views of
 types add, of each type whose value such a clause speaks of: their own lines, and the definitions that they cite. Not counted are the clauses themselves, the

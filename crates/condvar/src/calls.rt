@@ -1,37 +1,45 @@
 //! The thread and the side of a call on a lock with conditions. No function allocates or blocks.
 
 ghost use Rattle.std.specs.Prelude.{◌≡◌};
-ghost use Rattle.layer_traits.specs.{Layers.{Conditions.cv_rules, QLocking.lock_caller}, Blocks.Payloads.{cv_meant, lock_meant}};
+ghost use Rattle.layer_traits.specs.{Layers.{Conditions.cv_rules, QLocking.lock_caller}, Blocks.Payloads.{abstract_cv_edit, abstract_lock_call}};
 ghost use Rattle.condvar.specs.Waiting.{side_in};
 
 use event_log::Tid;
-use layer_traits::{CvEdit, CvLeave, Guarded, Parcel, QEdit, Side};
+use layer_traits::{CvEdit, CvLeave, Guarded, MessageSlot, QLockCall, Side};
 
 /// The thread that calls, with this parcel beside the call: it depends on no parcel.
 #[inline(always)]
-pub fn caller_of<G: Guarded>(call: &QEdit<CvEdit<G::Handed>, CvLeave>, parcel: &Parcel) -> Tid
+pub fn caller_of<G: Guarded>(
+    call: &QLockCall<CvEdit<G::Request>, CvLeave>,
+    message_slot: &MessageSlot,
+) -> Tid
     ensures { result ≡ lock_caller (cv_rules G.monitor_rules)
-        (lock_meant (cv_meant G.meant) call.now parcel.now) }
+        (abstract_lock_call (abstract_cv_edit G.abstract_call) call.now message_slot.now) }
 {
-    let _ = parcel;
+    let _ = message_slot;
     match call {
-        QEdit::Acquire(t) => *t,
-        QEdit::Inside(CvEdit::Edit(edit)) => G::caller(edit),
-        QEdit::Inside(CvEdit::SignalFront(t, _)) => *t,
-        QEdit::Release(CvLeave::Leave(t)) => *t,
-        QEdit::Release(CvLeave::Wait(t, _)) => *t,
+        QLockCall::Acquire(t) => *t,
+        QLockCall::Inside(CvEdit::Edit(edit)) => G::caller(edit),
+        QLockCall::Inside(CvEdit::SignalFront(t, _)) => *t,
+        QLockCall::Release(CvLeave::Leave(t)) => *t,
+        QLockCall::Release(CvLeave::Wait(t, _)) => *t,
     }
 }
 
 /// Returns the side of a wait, which does not depend on the parcel beside it; `Receivers` for a
 /// call that is no wait.
 #[inline(always)]
-pub fn side_of<G: Guarded>(call: &QEdit<CvEdit<G::Handed>, CvLeave>, parcel: &Parcel) -> Side
-    ensures { result ≡ side_in (lock_meant (cv_meant G.meant) call.now parcel.now) }
+pub fn side_of<G: Guarded>(
+    call: &QLockCall<CvEdit<G::Request>, CvLeave>,
+    message_slot: &MessageSlot,
+) -> Side
+    ensures { result ≡ side_in
+        (abstract_lock_call (abstract_cv_edit G.abstract_call) call.now message_slot.now) }
 {
-    let _ = parcel;
+    let _ = message_slot;
     match call {
-        QEdit::Release(CvLeave::Wait(_, side)) => *side,
-        QEdit::Release(CvLeave::Leave(_)) | QEdit::Acquire(_) | QEdit::Inside(_) => Side::Receivers,
+        QLockCall::Release(CvLeave::Wait(_, side)) => *side,
+        QLockCall::Release(CvLeave::Leave(_)) | QLockCall::Acquire(_) | QLockCall::Inside(_) =>
+            Side::Receivers,
     }
 }

@@ -4,8 +4,8 @@ use crate::calls::{caller_of, side_of};
 use crate::waits::Waits;
 use event_log::{BufId, CpuId, Tid};
 use layer_traits::{
-    BufferCall, CvEdit, CvLaw, CvLeave, CvOut, Guarded, Outcome, OwnThreads, OwnedThreadLayer,
-    Pass, Payload, QEdit, QLockLaw, QOut, ThreadLayer, WaitList,
+    BufferCall, CvEdit, CvLaw, CvLeave, CvReply, Guarded, Outcome, OwnThreads, OwnedThreadLayer,
+    Pass, Payload, QLockCall, QLockLaw, QLockReply, ThreadLayer, WaitList,
 };
 
 /// One CPU's part of queuing locks with Mesa conditions (Anderson and Dahlin), over a part `Q` of
@@ -23,13 +23,13 @@ impl<G: Guarded, Q: ThreadLayer<QLockLaw<CvEdit<G>>>> ThreadLayer<CvLaw<G>> for 
 
     ghost opening = { λ m. Q.opening m };
 
-    ghost seen = { λ m. Q.seen m };
+    ghost history = { λ m. Q.history m };
 
     ghost ActsFor = { λ m c. Q.ActsFor m c };
 
     ghost room = { λ m. Q.room m };
 
-    ghost site = { λ m. Q.site m };
+    ghost machine_id = { λ m. Q.machine_id m };
 
     ghost IsOutside = { λ m c. Q.IsOutside m c };
 
@@ -37,13 +37,13 @@ impl<G: Guarded, Q: ThreadLayer<QLockLaw<CvEdit<G>>>> ThreadLayer<CvLaw<G>> for 
 
     ghost cpu_of = { λ p. Q.cpu_of p.lower };
 
-    ghost own = { λ p. with_waits (Q.own p.lower) p.waits.buffers };
+    ghost local = { λ p. with_waits (Q.local p.lower) p.waits.buffers };
 
     ghost under_way = { λ p. Q.under_way p.lower };
 
     ghost is_inside = { λ p. Q.is_inside p.lower };
 
-    ghost Fits = { λ p m. Q.Fits p.lower m };
+    ghost Coupled = { λ p m. Q.Coupled p.lower m };
 
     ghost IsStepwise = { Q.IsStepwise };
 
@@ -87,13 +87,16 @@ impl<G: Guarded, Q: ThreadLayer<QLockLaw<CvEdit<G>>>> ThreadLayer<CvLaw<G>> for 
     fn poll(
         &mut self,
         m: &mut Q::Machine,
-        call: BufferCall<QEdit<CvEdit<G::Handed>, CvLeave>>,
+        call: BufferCall<QLockCall<CvEdit<G::Request>, CvLeave>>,
         payload: &mut Payload,
-    ) -> Option<Outcome<QOut<CvOut<G::Brought>>>> {
-        let t = caller_of::<G>(&call.edit, &payload.parcel);
+    ) -> Option<Outcome<QLockReply<CvReply<G::Response>>>> {
+        let t = caller_of::<G>(&call.edit, &payload.message_slot);
         if self.waits.ends_wait(&call.edit, t) {
             return Some(Outcome {
-                out: QOut::Released(CvOut::Waited(side_of::<G>(&call.edit, &payload.parcel))),
+                out: QLockReply::Released(CvReply::Waited(side_of::<G>(
+                    &call.edit,
+                    &payload.message_slot,
+                ))),
                 slept: false,
                 woke: None,
             });
@@ -186,19 +189,19 @@ impl<G: Guarded, Q: OwnedThreadLayer<QLockLaw<CvEdit<G>>>> OwnedThreadLayer<CvLa
         self.lower.pends_here(d, t)
     }
 
-    ghost shown = { λ m c b acts there. shown_under (λ (p : Self). p.lower) (λ p. Q.Fits p m) (λ (p : Self). Self.Fits p m) (λ p. Q.cpu_of p)
+    ghost shown = { λ m c b acts there. shown_under (λ (p : Self). p.lower) (λ p. Q.Coupled p m) (λ (p : Self). Self.Coupled p m) (λ p. Q.cpu_of p)
         (λ (p : Self). Q.cpu_of p.lower)
         (Q.MayHold m) (Q.MayHold m)
         (λ p. Q.block_with p b) (Q.block_at m b)
-        (lock_after (cv_rules G.monitor_rules) (inner (Q.opening m)) (Buffer b) (buffer_sections (Q.seen m)))
-        (λ p fits. fits) (λ p fits. refl) (λ d inside. inside) (Q.shown m c b acts there) };
+        (lock_after (cv_rules G.monitor_rules) (inner (Q.opening m)) (Buffer b) (buffer_sections (Q.history m)))
+        (λ p coupled. coupled) (λ p coupled. refl) (λ d inside. inside) (Q.shown m c b acts there) };
 
-    ghost queues = { λ m c d acts there. shown_under (λ (p : Self). p.lower) (λ p. Q.Fits p m) (λ (p : Self). Self.Fits p m) (λ p. Q.cpu_of p)
+    ghost queues = { λ m c d acts there. shown_under (λ (p : Self). p.lower) (λ p. Q.Coupled p m) (λ (p : Self). Self.Coupled p m) (λ p. Q.cpu_of p)
         (λ (p : Self). Q.cpu_of p.lower)
         (Q.MayHold m) (Q.MayHold m)
         (λ p. Q.queue_with p d) (Q.queue_at m d)
-        (Some (pending_by (moves_in (lock_kernel (cv_rules G.monitor_rules) (Q.opening m)) (Q.seen m)) d))
-        (λ p fits. fits) (λ p fits. refl) (λ d inside. inside) (Q.queues m c d acts there) };
+        (Some (pending_by (moves_in (lock_kernel (cv_rules G.monitor_rules) (Q.opening m)) (Q.history m)) d))
+        (λ p coupled. coupled) (λ p coupled. refl) (λ d inside. inside) (Q.queues m c d acts there) };
 
     ghost holding = { Q.holding };
 }

@@ -5,7 +5,7 @@
 //! Thread 3, which owns the lock of buffer 0, releases it and waits for a message, in one event:
 //!
 //! ```text
-//! let edit = QEdit::Release(CvLeave::Wait(Tid(3), Side::Receivers));
+//! let edit = QLockCall::Release(CvLeave::Wait(Tid(3), Side::Receivers));
 //! let call = BufferCall { buffer: BufId(0), edit };
 //! let outcome = part.poll(&mut machine, call, &mut payload);
 //! // None while it waits; it answers once the thread was woken and runs again

@@ -4,7 +4,7 @@ ghost use Rattle.std.specs.Prelude.{◌≡◌, ◌<◌, ◌&&◌, Some, None, is
 ghost use Rattle.{event_log.specs.declared.ids.TheConstants.THREADS, layer_traits.specs.Layers.QLockLaw.slept_for, condvar.specs.Waiting.{calls_wait, is_wait}};
 
 use event_log::{BufId, THREADS, Tid};
-use layer_traits::{CvEdit, CvLeave, CvOut, Outcome, QEdit, QOut};
+use layer_traits::{CvEdit, CvLeave, CvReply, Outcome, QLockCall, QLockReply};
 
 /// For each thread the buffer at which it waits, from the poll in which it began to wait until its
 /// wait returns.
@@ -47,15 +47,16 @@ impl Waits {
     ///
     /// Requires: the thread is below `THREADS`.
     #[inline(always)]
-    pub fn ends_wait<H>(&mut self, call: &QEdit<CvEdit<H>, CvLeave>, t: Tid) -> bool
+    pub fn ends_wait<H>(&mut self, call: &QLockCall<CvEdit<H>, CvLeave>, t: Tid) -> bool
         requires { t.0 < THREADS }
         ensures was { result ≡ (calls_wait call.now && is_some (slept_for self.old.buffers t)) }
         ensures now { self.new.buffers
             ≡ (if result then slice_set self.old.buffers t.0 None else self.old.buffers) }
     {
         match call {
-            QEdit::Release(CvLeave::Wait(_, _)) => self.wake(t),
-            QEdit::Release(CvLeave::Leave(_)) | QEdit::Acquire(_) | QEdit::Inside(_) => false,
+            QLockCall::Release(CvLeave::Wait(_, _)) => self.wake(t),
+            QLockCall::Release(CvLeave::Leave(_)) | QLockCall::Acquire(_) | QLockCall::Inside(_) =>
+                false,
         }
     }
 
@@ -68,8 +69,8 @@ impl Waits {
         &mut self,
         t: Tid,
         buffer: BufId,
-        answer: Option<Outcome<QOut<CvOut<O>>>>,
-    ) -> Option<Outcome<QOut<CvOut<O>>>>
+        answer: Option<Outcome<QLockReply<CvReply<O>>>>,
+    ) -> Option<Outcome<QLockReply<CvReply<O>>>>
         requires { t.0 < THREADS }
         ensures waits { self.new.buffers
             ≡ (if is_wait answer then slice_set self.old.buffers t.0 (Some buffer)
@@ -86,11 +87,11 @@ impl Waits {
 
 /// Returns whether the lock's result says that the caller waits.
 #[inline(always)]
-fn has_waited<O>(answer: &Option<Outcome<QOut<CvOut<O>>>>) -> bool
+fn has_waited<O>(answer: &Option<Outcome<QLockReply<CvReply<O>>>>) -> bool
     ensures { result ≡ is_wait answer.now }
 {
     match answer {
-        Some(outcome) => matches!(outcome.out, QOut::Released(CvOut::Waited(_))),
+        Some(outcome) => matches!(outcome.out, QLockReply::Released(CvReply::Waited(_))),
         None => false,
     }
 }

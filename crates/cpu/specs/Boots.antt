@@ -35,17 +35,17 @@ pub record IsBooted (number : CpuId) (guests : List (Option Guest)) (most : ℕ)
   pub reserved : most ≤ capacity
 
 -- and its part of the layer is as at boot, and agrees with each machine that is fresh
-pub record IsBootedAs {P M : Type 0} (Fits : P → M → Type 0) (IsFresh : M → CpuId → Type 0)
+pub record IsBootedAs {P M : Type 0} (Coupled : P → M → Type 0) (IsFresh : M → CpuId → Type 0)
     (count : M → ℕ) (buffers : ℕ) (homes : List CpuId)
-    (k : ℕ) (guests : List (Option Guest)) (most : ℕ) (part : P) (cpu : CpuId) (own : Buffering)
+    (k : ℕ) (guests : List (Option Guest)) (most : ℕ) (part : P) (cpu : CpuId) (local : Buffering)
     (under_way : Option UnderWay)
     (its : CpuId) (table : List (Option Guest)) (trace : List Entry) (limit capacity : ℕ) : Type
     0 where
   pub booted : IsBooted (record { 0 = k }) guests most its table trace limit capacity
   pub cpu_is : cpu ≡ record { 0 = k }
   pub nothing_done : under_way ≡ None
-  pub own_is : own ≡ buffering_at_start homes (record { 0 = k })
-  pub fits : (m : M) → IsFresh m (record { 0 = k }) → count m ≡ buffers → Fits part m
+  pub own_is : local ≡ buffering_at_start homes (record { 0 = k })
+  pub coupled : (m : M) → IsFresh m (record { 0 = k }) → count m ≡ buffers → Coupled part m
 
 -- what CPU c has at the number of a thread: a new guest if c is the thread's home CPU
 abbrev pub guest_for : ℕ → Task → Option Guest

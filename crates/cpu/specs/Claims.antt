@@ -3,7 +3,7 @@ use Rattle.std.specs.Prelude.{◌≡◌, ◌⊎◌, ℕ, zero, suc, ◌+◌, ◌
 use Rattle.std.specs.Prelude.{◌∷◌, map, length, reverse, Option, Some, None, slice_get}
 use Rattle.std.specs.{Prelude.slice_index_or, List.AllByRecursion}
 use Rattle.event_log.specs.declared.{entries.Entry.Entry, ids.{BufId.BufId, CpuId.CpuId, Tid.Tid}}
-use Rattle.event_log.specs.{Actions.Action, Messages.Message, Runs.{IsRun, is_closed}}
+use Rattle.event_log.specs.{Actions.Action, Messages.Message, Runs.{IsLegalHistory, is_closed}}
 use Rattle.event_log.specs.{Streams.IsFirstInFirstOut, Traces.IsInterleaving}
 use Rattle.guest.specs.{declared.instructions.Instruction.Instruction, Calls.AreProgramsCalls}
 use Rattle.{guest.specs.Calls.HasEnded, layer_traits.specs.declared.calls.Call.Call}
@@ -14,8 +14,8 @@ use Rattle.layer_traits.specs.Threads.{OnePlace.{InOnePlace, total}, Places.{Are
 use Rattle.layer_traits.specs.Threads.Places.{Step, Threads, count_in, home_of, where_is}
 use Rattle.layer_traits.specs.Views.Observed.{IsOwnPlace, queue_place}
 use Rattle.{thread_blocks.specs.Queues.is_in, cpu.specs.declared.guests.Guest.Guest}
-use Rattle.cpu.specs.{Guests.{HasComeIn, is_ended}, Table.{Blocks.Name, Setups.Private}}
-use Rattle.cpu.specs.{Tables.private, Tower.{Composed.named, Views.TowerName}, Cpus.IsOfHome}
+use Rattle.cpu.specs.{Guests.{HasComeIn, is_ended}, Table.{Blocks.Name, Setups.CpuLocal}}
+use Rattle.cpu.specs.{Tables.cpu_local, Tower.{Composed.named, Views.TowerName}, Cpus.IsOfHome}
 use Rattle.cpu.specs.Cpus.{guest_at, of_thread, programs_of}
 
 -- the threads that sleep at a buffer: for its lock, for a message, for room
@@ -26,20 +26,20 @@ pub record Waiters : Type 0 where
 
 -- one CPU: its scheduling state, the guests of its home threads by their numbers, its trace, oldest
 -- first, the trace's room, and whether a section is under way
-pub record CpuShown : Type 0 where
-  pub own : Threads
+pub record CpuView : Type 0 where
+  pub local : Threads
   pub guests : List (Option Guest)
   pub trace : List Entry
   pub limit : ℕ
   pub busy : Bool
   -- the same as the step table's private state, if the machine does one action a step
-  pub private : Private
+  pub cpu_local : CpuLocal
 
 -- A system as plain data. For each buffer: its capacity, what it holds, whether it is closed, which
 -- threads sleep at it and which owns its lock, as its last section left them. Then the home CPU of
 -- each thread, the moves of threads between places, newest first, the CPUs, the room for steps, and
 -- how many steps were taken.
-pub record Shown : Type 0 where
+pub record SystemView : Type 0 where
   -- the linearization: the calls that took effect, of all CPUs, in the order in which they did
   pub order : List Entry
   pub caps : List ℕ
@@ -52,7 +52,7 @@ pub record Shown : Type 0 where
   -- the actions of all CPUs, newest first, under the names of the step table, if the machine does
   -- one action a step
   pub log : List (Action Name)
-  pub cpus : List CpuShown
+  pub cpus : List CpuView
   pub room : ℕ
   pub taken : ℕ
 
@@ -73,26 +73,26 @@ waiters_by lines b =
       senders = lines (buffer_at b) Senders;
     }
 
-abbrev pub cpu_shown : Threads → List (Option Guest) → List Entry → ℕ → Bool → Buffering → CpuShown
-cpu_shown own guests trace limit busy part = record {
-  own = own;
+abbrev pub cpu_shown : Threads → List (Option Guest) → List Entry → ℕ → Bool → Buffering → CpuView
+cpu_shown local guests trace limit busy part = record {
+  local = local;
   guests = guests;
   trace = trace;
   limit = limit;
   busy = busy;
-  private = private part guests trace;
+  cpu_local = cpu_local part guests trace;
 }
 
 -- what a machine shows with its CPUs
 abbrev pub shown_of : List ℕ → List CpuId → List Entry → (BufId → WaitList → List Tid)
     → (BufId → Option Tid) → List Step → List (Action TowerName)
-    → List CpuShown → ℕ → ℕ → Shown
-shown_of caps homes seen lines owner moves acts cpus room taken = record {
-  order = reverse seen;
+    → List CpuView → ℕ → ℕ → SystemView
+shown_of caps homes history lines owner moves acts cpus room taken = record {
+  order = reverse history;
   caps = caps;
   homes = homes;
-  contents = contents_of caps seen;
-  closed = listed (is_closed seen) 0 (length caps);
+  contents = contents_of caps history;
+  closed = listed (is_closed history) 0 (length caps);
   waiters = listed (waiters_by lines) 0 (length caps);
   owners = listed (λ b. owner (buffer_at b)) 0 (length caps);
   moves = moves;
@@ -103,19 +103,19 @@ shown_of caps homes seen lines owner moves acts cpus room taken = record {
 }
 
 -- the traces of the CPUs, and the programs of each one's home threads
-abbrev pub traces_of : Shown → List (List Entry)
+abbrev pub traces_of : SystemView → List (List Entry)
 traces_of s = map (λ p. p.trace) s.cpus
 
-abbrev pub programs_in : Shown → List (List (Option (List Instruction)))
+abbrev pub programs_in : SystemView → List (List (Option (List Instruction)))
 programs_in s = map (λ p. programs_of p.guests) s.cpus
 
 -- The calls that took effect, in the order in which they did, keep every trace, are a legal history
 -- of FIFO buffers, and end in the buffers' contents. For each buffer the values put are, in that
 -- order, the values taken, followed by the contents. A buffer is closed exactly if the order closes
 -- it. There are no more calls than steps.
-pub record HasOneOrder (s : Shown) : Type 0 where
+pub record HasLinearization (s : SystemView) : Type 0 where
   pub keeps : IsInterleaving (traces_of s) s.order
-  pub run : IsRun s.caps s.order s.contents
+  pub run : IsLegalHistory s.caps s.order s.contents
   pub fifo : IsFirstInFirstOut s.order s.contents
   pub closed : (b : ℕ) → b < length s.caps → slice_index_or s.closed b false ≡ is_closed s.order b
   pub few : length s.order ≤ s.taken
@@ -133,25 +133,25 @@ pub record Keeps (g : Guest) (told_ended : Bool) (entries : List Entry) : Type 0
   pub over : told_ended ≡ true → is_ended g.stage ≡ true
 
 -- each thread follows its program
-abbrev pub FollowPrograms : Shown → Type 0
-FollowPrograms s =
-    (c : ℕ) (p : CpuShown) (t : Tid) (g : Guest) → slice_get s.cpus c ≡ Some p
+abbrev pub MatchesPrograms : SystemView → Type 0
+MatchesPrograms s =
+    (c : ℕ) (p : CpuView) (t : Tid) (g : Guest) → slice_get s.cpus c ≡ Some p
     → guest_at p.guests t.0 ≡ Some g
-    → Keeps g (is_in t p.own.ended) (of_thread t.0 p.trace)
+    → Keeps g (is_in t p.local.ended) (of_thread t.0 p.trace)
 
 -- each entry in a CPU's trace is of that CPU, and of a thread whose home CPU it is
-abbrev pub StayHome : Shown → Type 0
-StayHome s =
-    (c : ℕ) (p : CpuShown) → slice_get s.cpus c ≡ Some p
+abbrev pub KeepsAffinity : SystemView → Type 0
+KeepsAffinity s =
+    (c : ℕ) (p : CpuView) → slice_get s.cpus c ≡ Some p
     → AllByRecursion (IsOfHome s.homes (record { 0 = c })) p.trace
 
 -- What holds at each moment (state) of a run: the calls so far have one order, and each thread's
 -- entries lead to its state. Therefore each call that has returned is in the order, and of each
 -- thread at most one more, which the thread is inside.
-pub record IsMoment (s : Shown) : Type 0 where
-  pub one_order : HasOneOrder s
-  pub follow : FollowPrograms s
-  pub stay : StayHome s
+pub record IsRunState (s : SystemView) : Type 0 where
+  pub linearization : HasLinearization s
+  pub follow : MatchesPrograms s
+  pub stay : KeepsAffinity s
 
 -- how often a thread is among those that sleep at a buffer
 abbrev pub in_waiters : Tid → Waiters → ℕ
@@ -163,38 +163,38 @@ no_threads = record { current = None; hand = None; ready = []; ended = [] }
 abbrev pub no_waiters : Waiters
 no_waiters = record { sleepers = []; receivers = []; senders = [] }
 
-abbrev pub own_in : Option CpuShown → Threads
+abbrev pub own_in : Option CpuView → Threads
 own_in None = no_threads
-own_in (Some p) = p.own
+own_in (Some p) = p.local
 
 -- the scheduling state of CPU k
-abbrev pub own_at : Shown → ℕ → Threads
+abbrev pub own_at : SystemView → ℕ → Threads
 own_at s k = own_in (slice_get s.cpus k)
 
 -- the threads that sleep at buffer b
-abbrev pub waiters_at : Shown → ℕ → Waiters
+abbrev pub waiters_at : SystemView → ℕ → Waiters
 waiters_at s b = slice_index_or s.waiters b no_waiters
 
 -- Each thread is in exactly one place of the whole system. It runs or is ready on a CPU, is in one
 -- CPU's hand, in one pending queue, asleep in one wait list, or has ended. A number that is no
 -- thread's is in no place.
-abbrev pub StandsOnce : Shown → Type 0
-StandsOnce s =
+abbrev pub HasUniquePlace : SystemView → Type 0
+HasUniquePlace s =
     (t : Tid) → InOnePlace s.homes (length s.cpus) s.moves (own_at s)
     (λ u. total (λ b. in_waiters u (waiters_at s b)) (length s.waiters)) t
 
 -- a thread's place: one CPU's scheduling state gives it, or the moves place the thread in a queue
-abbrev pub IsPlaceOf : Shown → Tid → Place → Type 0
+abbrev pub IsPlaceOf : SystemView → Tid → Place → Type 0
 IsPlaceOf s t place =
-    ((c : ℕ) × (p : CpuShown) × (slice_get s.cpus c ≡ Some p)
-    × IsOwnPlace (record { 0 = c }) p.own t place)
+    ((c : ℕ) × (p : CpuView) × (slice_get s.cpus c ≡ Some p)
+    × IsOwnPlace (record { 0 = c }) p.local t place)
     ⊎ (queue_place (where_is s.homes s.moves t) ≡ Some place)
 
 -- Each CPU's scheduling state agrees with the moves of threads. Each move may follow those before
 -- it, and each CPU has the threads that the moves leave with it. Each thread's home is one of the
 -- CPUs.
-pub record MovesAgree (s : Shown) : Type 0 where
+pub record MovesAgree (s : SystemView) : Type 0 where
   pub lawful : AreMoves s.homes s.moves
-  pub stands : (k : ℕ) (p : CpuShown) → slice_get s.cpus k ≡ Some p
-      → Stands s.homes (record { 0 = k }) s.moves p.own
+  pub stands : (k : ℕ) (p : CpuView) → slice_get s.cpus k ≡ Some p
+      → Stands s.homes (record { 0 = k }) s.moves p.local
   pub within : (t : Tid) (home : CpuId) → home_of s.homes t ≡ Some home → home.0 < length s.cpus

@@ -12,29 +12,29 @@ use Rattle.cpu.specs.{Cpus.reason_in, Tables.{IsTabled, WentByTable}}
 -- the CPU's invariant
 abbrev pub IsCpuAt : {P L M : Type 0} → Ghosts P L M → M → Cpu P M → Type 0
 IsCpuAt I m p =
-    IsCpu (homes_in (I.opening m)) (length (caps_in (I.opening m))) (I.seen m)
-    (threads_in (I.own p.part)) (I.own p.part).call_states
+    IsCpu (homes_in (I.opening m)) (length (caps_in (I.opening m))) (I.history m)
+    (threads_in (I.local p.part)) (I.local p.part).call_states
     (I.under_way p.part) p.number p.guests.items p.trace.items
     p.limit (vec_capacity p.trace)
 
 -- and what the step table adds to the invariant
 abbrev pub IsTabledAt : {P L M : Type 0} → Ghosts P L M → M → Cpu P M → Type 0
 IsTabledAt I m p =
-    IsTabled (homes_in (I.opening m)) (caps_in (I.opening m)) p.number (I.own p.part)
+    IsTabled (homes_in (I.opening m)) (caps_in (I.opening m)) p.number (I.local p.part)
     (I.under_way p.part) p.guests.items (I.opening m)
 
 -- why the CPU takes no step
 abbrev pub stops_at : {P L M : Type 0} → Ghosts P L M → Cpu P M → Option Reason
 stops_at I p =
     reason_in (I.is_inside p.part)
-    (cpu_halted_at (threads_in (I.own p.part)) p.guests.items p.trace.items p.limit)
+    (cpu_halted_at (threads_in (I.local p.part)) p.guests.items p.trace.items p.limit)
 
 -- the CPU and its machine went from the first two to the last two by one step of the table, with
 -- this result
 abbrev pub WentAt : {P L M : Type 0} → Ghosts P L M → M → Cpu P M → M → Cpu P M → Step → Type 0
 WentAt I m p n q answer =
     WentByTable (I.ActsFor m) (homes_in (I.opening m)) (caps_in (I.opening m)) p.number p.limit
-    (I.own p.part) (I.own q.part)
+    (I.local p.part) (I.local q.part)
     p.guests.items q.guests.items p.trace.items q.trace.items (I.acts m) (I.acts n) answer
 
 -- what the CPU and its machine keep, and what only grows
@@ -45,20 +45,20 @@ pub record Leaves {P L M : Type 0} (I : Ghosts P L M) (m : M) (p : Cpu P M) (n :
   pub cpu : I.cpu_of q.part ≡ p.number
   pub programs : programs_of q.guests.items ≡ programs_of p.guests.items
   pub guests : GuestsWent p.number p.guests.items p.trace.items q.guests.items q.trace.items
-  pub seen : SeenGrows (I.ActsFor m) p.number (I.seen m) (I.seen n)
+  pub history : SeenGrows (I.ActsFor m) p.number (I.history m) (I.history n)
   pub moves : MovesGrow (I.ActsFor m) p.number (I.moves m) (I.moves n)
   pub grows : I.IsStepwise → ActsGrow (I.ActsFor m) p.number (I.acts m) (I.acts n)
   pub opening : I.opening n ≡ I.opening m
-  pub site : I.site n ≡ I.site m
+  pub machine_id : I.machine_id n ≡ I.machine_id m
   pub room : I.room m ≤ I.room n + 1
   pub acts : (c : CpuId) → I.ActsFor m c → I.ActsFor n c
-  pub others : (part : P) → I.cpu_of part ≢ p.number → I.Fits part m → I.Fits part n
+  pub others : (part : P) → I.cpu_of part ≢ p.number → I.Coupled part m → I.Coupled part n
   pub holders : (c : CpuId) → c ≢ p.number → I.ActsFor m c → I.MayHold n c → I.MayHold m c
 
 -- Coupling invariant: the CPU and its machine agree. Its part agrees with the machine and has its
 -- number, and its own invariant holds.
 pub record AgreesAt {P L M : Type 0} (I : Ghosts P L M) (m : M) (p : Cpu P M) : Type 0 where
-  pub fits : I.Fits p.part m
+  pub coupled : I.Coupled p.part m
   pub number : I.cpu_of p.part ≡ p.number
   pub is : IsCpuAt I m p
   pub table : I.IsStepwise → IsTabledAt I m p

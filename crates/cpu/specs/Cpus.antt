@@ -18,10 +18,11 @@ use Rattle.layer_traits.specs.{declared.passes.Pass.TheVariants.End, Threads.Pla
 use Rattle.layer_traits.specs.{Threads.Places.home_of, Layers.BufferLaw.{UnderWay, Calling}}
 use Rattle.layer_traits.specs.Layers.BufferLaw.{Passing, buffer_of, cpu_of_entry, call_state_of}
 use Rattle.{layer_traits.specs.Layers.BufferLaw.reply_of, cpu.specs.declared.guests.Guest.Guest}
-use Rattle.cpu.specs.declared.guests.Todo.{Todo, TheVariants.{Finish, PassOn, Compute, Calls}}
-use Rattle.cpu.specs.declared.cpus.Choice.{Choice, TheVariants.{Polls, Passes, Computes}}
-use Rattle.cpu.specs.Guests.{HasCome, after_pass, computed, entries_of, fresh_effect, is_begun}
-use Rattle.cpu.specs.Guests.{is_calling, is_ended, polled, todo_of}
+use Rattle.cpu.specs.declared.guests.NextAction.{NextAction, TheVariants.{Finish, PassOn, Compute}}
+use Rattle.cpu.specs.declared.{guests.NextAction.TheVariants.Calls, cpus.Choice.Choice}
+use Rattle.cpu.specs.{declared.cpus.Choice.TheVariants.{Polls, Passes, Computes}, Guests.HasCome}
+use Rattle.cpu.specs.Guests.{after_pass, computed, entries_of, fresh_effect, is_begun, is_calling}
+use Rattle.cpu.specs.Guests.{is_ended, polled, todo_of}
 
 -- the guest of a thread, in a table by thread
 abbrev pub guest_at : List (Option Guest) → ℕ → Option Guest
@@ -49,14 +50,14 @@ chosen_idle None [] = Passes Drain
 chosen_idle None (t ∷ rest) = Passes Switch
 
 -- what a thread does next
-abbrev pub chosen_todo : Tid → Todo → Choice
+abbrev pub chosen_todo : Tid → NextAction → Choice
 chosen_todo t (Calls c) = Polls t c
 chosen_todo t Finish = Passes End
 chosen_todo t PassOn = Passes YieldNow
 chosen_todo t Compute = Computes t
 
 -- a thread runs: its call continues, or the hand is emptied first
-abbrev pub chosen_by : Tid → Bool → Option Tid → Todo → Choice
+abbrev pub chosen_by : Tid → Bool → Option Tid → NextAction → Choice
 chosen_by t true hand todo = chosen_todo t todo
 chosen_by t false None todo = chosen_todo t todo
 chosen_by t false (Some s) todo = Passes (MakeReady s)
@@ -71,7 +72,7 @@ chosen_at (Some t) hand ready guests = chosen_for t hand (guest_at guests t.0)
 
 -- what a CPU that is not halted does next
 abbrev pub chosen : Threads → List (Option Guest) → Choice
-chosen own guests = chosen_at own.current own.hand own.ready guests
+chosen local guests = chosen_at local.current local.hand local.ready guests
 
 -- a guest is at this message call
 abbrev pub stands_at_call : Option Guest → Call → Type 0
@@ -115,10 +116,11 @@ begins_call (Computes t) guests = false
 -- why a CPU with no section under way is halted: all its threads have ended, or the trace has no
 -- room for the call that would begin
 abbrev pub cpu_halted_at : Threads → List (Option Guest) → List Entry → ℕ → Option Reason
-cpu_halted_at own guests trace limit =
-    if not (is_some own.hand) && list_all is_over guests
+cpu_halted_at local guests trace limit =
+    if not (is_some local.hand) && list_all is_over guests
     then Some AllEnded
-    else (if begins_call (chosen own guests) guests && (length trace + begun_count guests == limit)
+    else (if begins_call (chosen local guests) guests
+    && (length trace + begun_count guests == limit)
     then Some TraceFull else None)
 
 -- a CPU with a section under way is not halted
@@ -165,27 +167,27 @@ pub record IsOfHome (homes : List CpuId) (number : CpuId) (e : Entry) : Type 0 w
   pub home : home_of homes e.thread ≡ Some number
 
 -- the invariant of a CPU
-pub record IsCpu (homes : List CpuId) (buffers : ℕ) (seen : List Entry) (own : Threads)
+pub record IsCpu (homes : List CpuId) (buffers : ℕ) (history : List Entry) (local : Threads)
     (call_states : List CallState) (under_way : Option UnderWay)
     (number : CpuId)
     (guests : List (Option Guest)) (trace : List Entry) (limit capacity : ℕ) : Type 0 where
   -- its trace has each of its effects once, in their order, and each is of a home thread
-  pub kept : trace ≡ reverse (of_cpu number seen)
-  pub stays : AllByRecursion (IsOfHome homes number) (of_cpu number seen)
+  pub kept : trace ≡ reverse (of_cpu number history)
+  pub stays : AllByRecursion (IsOfHome homes number) (of_cpu number history)
   -- each guest agrees with its entries; each home thread has a guest, whose program names only the
   -- machine's buffers
-  pub follow : AllFollow guests (of_cpu number seen) call_states
-  pub over : AreOver guests own.ended
+  pub follow : AllFollow guests (of_cpu number history) call_states
+  pub over : AreOver guests local.ended
   pub homed : (t : Tid) → home_of homes t ≡ Some number
       → (g : Guest) × (guest_at guests t.0 ≡ Some g)
   pub named : (t : Tid) (g : Guest) → guest_at guests t.0 ≡ Some g → NamesBelow buffers g.program
   pub few : length guests ≤ THREADS
   -- what is under way is what would be chosen; a call that is under way has begun; a thread in no
   -- call has no woken thread in hand
-  pub agrees : (d : UnderWay) → under_way ≡ Some d → under_way_of (chosen own guests) ≡ Some d
+  pub agrees : (d : UnderWay) → under_way ≡ Some d → under_way_of (chosen local guests) ≡ Some d
   pub calls : (t : Tid) (g : Guest) → under_way ≡ Some (Calling t) → guest_at guests t.0 ≡ Some g
       → is_calling g.stage ≡ true
-  pub handed : (t : Tid) → own.current ≡ Some t → under_way ≡ None → own.hand ≡ None
+  pub handed : (t : Tid) → local.current ≡ Some t → under_way ≡ None → local.hand ≡ None
   -- the trace has room for the entries of all calls that have begun
   pub room : length trace + begun_count guests ≤ limit
   pub reserved : limit ≤ capacity
@@ -195,7 +197,7 @@ pub record SeenGrows (ActsFor : CpuId → Type 0) (cpu : CpuId) (old new : List 
   pub others : List Entry
   pub mine : List Entry
   pub foreign : AreForeign ActsFor cpu_of_entry others
-  pub own : AllByRecursion (λ e. e.cpu ≡ cpu) mine
+  pub local : AllByRecursion (λ e. e.cpu ≡ cpu) mine
   pub few : length mine ≤ 1
   pub is : new ≡ mine ++ (others ++ old)
 
@@ -205,7 +207,7 @@ pub record ActsGrow {N : Type 0} (ActsFor : CpuId → Type 0) (cpu : CpuId)
   pub others : List (Action N)
   pub mine : List (Action N)
   pub foreign : AreForeign ActsFor cpu_of_action others
-  pub own : AllByRecursion (λ a. cpu_of_action a ≡ cpu) mine
+  pub local : AllByRecursion (λ a. cpu_of_action a ≡ cpu) mine
   pub is : new ≡ mine ++ (others ++ old)
 
 -- a call that has a reply has taken effect, and the reply is that effect's

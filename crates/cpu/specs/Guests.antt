@@ -4,7 +4,7 @@ use Rattle.std.specs.Prelude.{◌≡◌, ℕ, Bool, true, false, List, Option, S
 use Rattle.std.specs.Prelude.{option_to_list}
 use Rattle.event_log.specs.declared.{entries.{Entry.Entry, Kind.Kind}, ids.BufId.BufId}
 use Rattle.event_log.specs.{declared.ids.{CpuId.CpuId, Tid.Tid}, Messages.Message}
-use Rattle.guest.specs.{declared.instructions.{Instruction.Instruction, Into.Into}, State.State}
+use Rattle.guest.specs.{declared.instructions.{Instruction.Instruction, Target.Target}, State.State}
 use Rattle.guest.specs.State.{at_start, next_of, message_from, moved_on, moved_into, moved_aside}
 use Rattle.guest.specs.State.{after_local, after_send, after_recv, after_close, after_closed}
 use Rattle.guest.specs.{State.after_yield, Calls.{IsProgramsCalls, HasEnded}}
@@ -15,14 +15,15 @@ use Rattle.layer_traits.specs.declared.passes.Pass.{Pass, TheVariants.{YieldNow,
 use Rattle.layer_traits.specs.declared.call_states.CallState.{CallState}
 use Rattle.layer_traits.specs.Layers.BufferLaw.{IsEffectOf, begun_of, entry_of}
 use Rattle.cpu.specs.declared.guests.{Guest.Guest, GuestStage.{GuestStage, TheVariants.Idle}}
-use Rattle.cpu.specs.declared.guests.{GuestStage.TheVariants.{Begun, Done, Ended}, Todo.Todo}
-use Rattle.cpu.specs.declared.guests.Todo.TheVariants.{Finish, PassOn, Compute, Calls}
+use Rattle.cpu.specs.declared.guests.GuestStage.TheVariants.{Begun, Done, Ended}
+use Rattle.cpu.specs.declared.guests.NextAction.{NextAction, TheVariants.{Finish, PassOn, Compute}}
+use Rattle.cpu.specs.declared.guests.NextAction.TheVariants.{Calls}
 use Rattle.event_log.specs.declared.entries.Kind.TheVariants as kind
 use Rattle.guest.specs.declared.instructions.Instruction.TheVariants as ins
 use Rattle.layer_traits.specs.declared.call_states.Stage.TheVariants as call_state_stage
 
 -- what an instruction requests
-abbrev pub todo_at : State → Instruction → Todo
+abbrev pub todo_at : State → Instruction → NextAction
 todo_at s ins.Exit = Finish
 todo_at s ins.Yield = PassOn
 todo_at s (ins.Send b from k) = Calls (Send b (message_from s from))
@@ -34,7 +35,7 @@ todo_at s (ins.Sub r q) = Compute
 todo_at s (ins.Jnz r k) = Compute
 
 -- what a guest does next
-abbrev pub todo_of : Guest → Todo
+abbrev pub todo_of : Guest → NextAction
 todo_of g = todo_at g.thread (next_of g.program g.thread)
 
 -- a guest before its first instruction
@@ -95,7 +96,7 @@ after_sent other k s = moved_on s
 
 -- after the effect of a receive: one that found the buffer closed and empty goes to the target, and
 -- the registers stay
-abbrev pub after_received : Kind → Into → Option ℕ → Message → State → State
+abbrev pub after_received : Kind → Target → Option ℕ → Message → State → State
 after_received kind.RecvClosed into k message s = moved_aside s k
 after_received other into k message s = moved_into s into message
 

@@ -8,7 +8,7 @@ pub mod Systems
 pub mod Linear
 pub mod Sound
 pub mod Observed
-pub mod Calm
+pub mod Quiescent
 pub mod Boots
 pub mod Tables
 pub mod CpuSteps

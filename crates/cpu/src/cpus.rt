@@ -5,7 +5,7 @@ ghost use Rattle.{layer_traits.specs.{Views.OwnParts.threads_in, Layers.BufferLa
 ghost use Rattle.cpu.specs.Cpus.{begins_at, begun_count, chosen_for, guest_at};
 
 use crate::guest_tables::Guests;
-use crate::guests::{Guest, Todo};
+use crate::guests::{Guest, NextAction};
 use event_log::{BufId, CpuId, Entry, Tid};
 use layer_traits::{Call, CallLayer, Effect, Ghost, IpcLaw, Pass, Reason, Step};
 
@@ -49,9 +49,9 @@ impl<I: CallLayer<IpcLaw>> Cpu<I> {
     /// Returns what the CPU does next if it is not halted.
     #[inline(always)]
     fn choice(&self) -> Choice
-        requires { (t : _) → (threads_in (I.own self.now.part)).current ≡ Some t
+        requires { (t : _) → (threads_in (I.local self.now.part)).current ≡ Some t
             → t.0 < length self.now.guests.items }
-        ensures { result ≡ chosen (threads_in (I.own self.now.part)) self.now.guests.items }
+        ensures { result ≡ chosen (threads_in (I.local self.now.part)) self.now.guests.items }
     {
         let hand = self.part.hand();
         match self.part.current() {
@@ -76,9 +76,9 @@ impl<I: CallLayer<IpcLaw>> Cpu<I> {
     /// Requires: the running thread, if there is one, has a place in the table of guests.
     #[inline(always)]
     pub fn halted(&self) -> Option<Reason>
-        requires { (t : _) → (threads_in (I.own self.now.part)).current ≡ Some t
+        requires { (t : _) → (threads_in (I.local self.now.part)).current ≡ Some t
             → t.0 < length self.now.guests.items }
-        ensures { result ≡ cpu_halted_at (threads_in (I.own self.now.part)) self.now.guests.items
+        ensures { result ≡ cpu_halted_at (threads_in (I.local self.now.part)) self.now.guests.items
             self.now.trace.items self.now.limit }
     {
         if self.guests.are_over() && self.part.hand().is_none() {
@@ -103,7 +103,7 @@ impl<I: CallLayer<IpcLaw>> Cpu<I> {
     /// Requires: the running thread, if there is one, has a place in the table of guests.
     #[inline(always)]
     pub fn reason(&self) -> Option<Reason>
-        requires { (t : _) → (threads_in (I.own self.now.part)).current ≡ Some t
+        requires { (t : _) → (threads_in (I.local self.now.part)).current ≡ Some t
             → t.0 < length self.now.guests.items }
         ensures { result ≡ stops_at ⟦<I as CallLayer<IpcLaw>>⟧ self.now }
     {
@@ -129,7 +129,7 @@ impl<I: CallLayer<IpcLaw>> Cpu<I> {
     #[inline(always)]
     fn call(&mut self, m: &mut I::Machine, thread: Tid, asked: Ghost<Call>, most: usize) -> usize
         requires goes { GoesAt ⟦<I as CallLayer<IpcLaw>>⟧ m.old self.old most }
-        requires chosen { chosen (threads_in (I.own self.old.part)) self.old.guests.items
+        requires chosen { chosen (threads_in (I.local self.old.part)) self.old.guests.items
             ≡ Polls thread asked }
         requires not_full { begins_at (guest_at self.old.guests.items thread.0) ≡ true
             → length self.old.trace.items + begun_count self.old.guests.items < self.old.limit }
@@ -148,7 +148,7 @@ impl<I: CallLayer<IpcLaw>> Cpu<I> {
     #[inline(always)]
     fn pass(&mut self, m: &mut I::Machine, pass: Pass)
         requires goes { GoesAt ⟦<I as CallLayer<IpcLaw>>⟧ m.old self.old 1 }
-        requires chosen { chosen (threads_in (I.own self.old.part)) self.old.guests.items
+        requires chosen { chosen (threads_in (I.local self.old.part)) self.old.guests.items
             ≡ Passes pass }
         ensures { SteppedAt ⟦<I as CallLayer<IpcLaw>>⟧ m.old self.old m.new self.new }
     {
@@ -164,7 +164,7 @@ impl<I: CallLayer<IpcLaw>> Cpu<I> {
     #[inline(never)]
     fn passes(&mut self, m: &mut I::Machine, pass: Pass)
         requires goes { GoesAt ⟦<I as CallLayer<IpcLaw>>⟧ m.old self.old 1 }
-        requires chosen { chosen (threads_in (I.own self.old.part)) self.old.guests.items
+        requires chosen { chosen (threads_in (I.local self.old.part)) self.old.guests.items
             ≡ Passes pass }
         ensures { SteppedAt ⟦<I as CallLayer<IpcLaw>>⟧ m.old self.old m.new self.new }
     {
@@ -178,11 +178,11 @@ impl<I: CallLayer<IpcLaw>> Cpu<I> {
     /// Requires: the running thread, if there is one, has a place in the table of guests.
     #[inline(always)]
     fn goes_on_draining(&self) -> bool
-        requires { (t : _) → (threads_in (I.own self.now.part)).current ≡ Some t
+        requires { (t : _) → (threads_in (I.local self.now.part)).current ≡ Some t
             → t.0 < length self.now.guests.items }
         ensures live { result ≡ true → stops_at ⟦<I as CallLayer<IpcLaw>>⟧ self.now ≡ None }
         ensures chosen { result ≡ true
-            → chosen (threads_in (I.own self.now.part)) self.now.guests.items ≡ Passes Drain }
+            → chosen (threads_in (I.local self.now.part)) self.now.guests.items ≡ Passes Drain }
     {
         if self.part.current().is_some() || self.part.hand().is_some() || self.part.has_ready() {
             return false;
@@ -199,7 +199,7 @@ impl<I: CallLayer<IpcLaw>> Cpu<I> {
     #[inline(never)]
     fn drains(&mut self, m: &mut I::Machine, most: usize) -> usize
         requires goes { GoesAt ⟦<I as CallLayer<IpcLaw>>⟧ m.old self.old most }
-        requires chosen { chosen (threads_in (I.own self.old.part)) self.old.guests.items
+        requires chosen { chosen (threads_in (I.local self.old.part)) self.old.guests.items
             ≡ Passes Drain }
         ensures { RanWithin ⟦<I as CallLayer<IpcLaw>>⟧ m.old self.old most result m.new self.new }
     {
@@ -220,7 +220,7 @@ impl<I: CallLayer<IpcLaw>> Cpu<I> {
     #[inline(always)]
     fn compute(&mut self, m: &mut I::Machine, thread: Tid)
         requires goes { GoesAt ⟦<I as CallLayer<IpcLaw>>⟧ m.old self.old 1 }
-        requires chosen { chosen (threads_in (I.own self.old.part)) self.old.guests.items
+        requires chosen { chosen (threads_in (I.local self.old.part)) self.old.guests.items
             ≡ Computes thread }
         ensures { SteppedAt ⟦<I as CallLayer<IpcLaw>>⟧ m.old self.old m.new self.new }
     {
@@ -284,7 +284,7 @@ impl<I: CallLayer<IpcLaw>> Cpu<I> {
     pub fn act(&mut self, m: &mut I::Machine) -> Step
         requires agrees { AgreesAt ⟦<I as CallLayer<IpcLaw>>⟧ m.old self.old }
         requires room { 0 < I.room m.old }
-        ensures fits { I.Fits self.new.part m.new }
+        ensures coupled { I.Coupled self.new.part m.new }
         ensures is { IsCpuAt ⟦<I as CallLayer<IpcLaw>>⟧ m.new self.new }
         ensures leaves { Leaves ⟦<I as CallLayer<IpcLaw>>⟧ m.old self.old m.new self.new }
         ensures answer { result ≡ step_answer (stops_at ⟦<I as CallLayer<IpcLaw>>⟧ self.old) }
@@ -308,12 +308,13 @@ impl<I: CallLayer<IpcLaw>> Cpu<I> {
     /// are steps.
     #[inline(always)]
     pub(crate) fn spin(&self, m: &mut I::Machine, steps: &[CpuId]) -> usize
-        requires fits { I.Fits self.now.part m.old }
+        requires coupled { I.Coupled self.now.part m.old }
         requires room { length steps.now ≤ I.room m.old }
         ensures few { BeginWith (I.cpu_of self.now.part) result steps.now }
         ensures still { result ≡ 0 → m.new ≡ m.old }
         ensures live { 0 < result → stops_at ⟦<I as CallLayer<IpcLaw>>⟧ self.now ≡ None }
-        ensures spun { Spun I.Fits I.opening I.site I.seen I.room I.ActsFor I.MayHold result m.old
+        ensures spun { Spun I.Coupled I.opening I.machine_id I.history I.room I.ActsFor I.MayHold
+            result m.old
             m.new }
         ensures tries { I.IsStepwise
             → Misses (I.cpu_of self.now.part) result (I.acts m.old) (I.acts m.new) }
@@ -333,7 +334,7 @@ impl<I: CallLayer<IpcLaw>> Cpu<I> {
     pub fn step(&mut self, m: &mut I::Machine) -> Step
         requires agrees { AgreesAt ⟦<I as CallLayer<IpcLaw>>⟧ m.old self.old }
         requires room { 0 < I.room m.old }
-        ensures fits { I.Fits self.new.part m.new }
+        ensures coupled { I.Coupled self.new.part m.new }
         ensures is { IsCpuAt ⟦<I as CallLayer<IpcLaw>>⟧ m.new self.new }
         ensures leaves { Leaves ⟦<I as CallLayer<IpcLaw>>⟧ m.old self.old m.new self.new }
         ensures answer { result ≡ step_answer (stops_at ⟦<I as CallLayer<IpcLaw>>⟧ self.old) }
@@ -363,10 +364,10 @@ fn choice_for(thread: Tid, hand: Option<Tid>, guest: &Option<Guest>) -> Choice
         }
     }
     match guest.todo() {
-        Todo::Calls(call) => Choice::Polls(thread, call),
-        Todo::Finish => Choice::Passes(Pass::End),
-        Todo::PassOn => Choice::Passes(Pass::YieldNow),
-        Todo::Compute => Choice::Computes(thread),
+        NextAction::Calls(call) => Choice::Polls(thread, call),
+        NextAction::Finish => Choice::Passes(Pass::End),
+        NextAction::PassOn => Choice::Passes(Pass::YieldNow),
+        NextAction::Compute => Choice::Computes(thread),
     }
 }
 

@@ -2,7 +2,7 @@
 
 ghost use Rattle.std.specs.Prelude.{◌≡◌, Option, Some, None, if◌then◌else◌};
 ghost use Rattle.layer_traits.specs.{declared.calls.{Call.Call, Effect.Effect}, Layers.BufferLaw.{answer_with, reply_with}};
-ghost use Rattle.cpu.specs.declared.guests.Todo.TheVariants.{Calls};
+ghost use Rattle.cpu.specs.declared.guests.NextAction.TheVariants.{Calls};
 
 use event_log::BufId;
 use guest::{Instruction, Program, Thread};
@@ -50,7 +50,7 @@ impl GuestStage {
 
 /// What a guest does next.
 #[derive(Drop)]
-pub enum Todo {
+pub enum NextAction {
     /// It ends.
     Finish,
     /// It yields to the other threads of its CPU.
@@ -88,19 +88,19 @@ impl Guest {
 
     /// Returns what the guest does next.
     #[inline(always)]
-    pub(crate) fn todo(&self) -> Todo
+    pub(crate) fn todo(&self) -> NextAction
         ensures { result ≡ todo_of self.now }
     {
         match self.thread.next(&self.program) {
-            Instruction::Exit => Todo::Finish,
-            Instruction::Yield => Todo::PassOn,
+            Instruction::Exit => NextAction::Finish,
+            Instruction::Yield => NextAction::PassOn,
             Instruction::Send(..) | Instruction::Recv(..) | Instruction::Close(_) => {
-                Todo::Calls(Ghost::of(&self.call()))
+                NextAction::Calls(Ghost::of(&self.call()))
             }
             Instruction::Set(..)
             | Instruction::Add(..)
             | Instruction::Sub(..)
-            | Instruction::Jnz(..) => Todo::Compute,
+            | Instruction::Jnz(..) => NextAction::Compute,
         }
     }
 

@@ -22,7 +22,7 @@ mod systems;
 
 pub use cpus::{Choice, Cpu};
 pub use guest_tables::Guests;
-pub use guests::{Guest, GuestStage, Todo};
+pub use guests::{Guest, GuestStage, NextAction};
 pub use laws::{
     calls_return_alone, cpus_lose_no_wake_up, free_locks_have_no_sleepers, halts_exactly,
     linear_runs_keep_real_time, one_signal_loses_a_wake_up, order_loses_no_wake_up,

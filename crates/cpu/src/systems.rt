@@ -1,9 +1,9 @@
 //! The whole system: a machine of message calls and its CPUs. Only the functions that open a system
 //! allocate. None blocks.
 
-mod calm;
 mod opening;
 mod plans;
+mod quiescent;
 mod quiet;
 
 ghost use Rattle.std.specs.Prelude.{◌≡◌, ◌+◌, ◌<◌, ◌≤◌, ◌↔◌, true, false, All, IfSome, IsOk, OnErr, OnOk, Some, None, [], length, map, slice_index_or, take};
@@ -41,27 +41,27 @@ where
     I::Machine: Drop,
 {
     ghost use Rattle.std.specs.Prelude.{◌≡◌, length, map, vec_capacity};
-    ghost use Rattle.{layer_traits.specs.{Blocks.{Capacities.caps_in, QueueBlocks.homes_in}, Views.OwnParts.threads_in}, cpu.specs.{Cpus.IsCpu, Claims.Shown}};
-    ghost use Rattle.cpu.specs.{Claims.{cpu_shown, shown_of}, Tables.IsTabled, Sound.IsReachedByTable, Systems.IsSystem};
+    ghost use Rattle.{layer_traits.specs.{Blocks.{Capacities.caps_in, QueueBlocks.homes_in}, Views.OwnParts.threads_in}, cpu.specs.Cpus.IsCpu};
+    ghost use Rattle.cpu.specs.{Claims.{SystemView, cpu_shown, shown_of}, Tables.IsTabled, Sound.IsReachedByTable, Systems.IsSystem};
 
-    ghost Value = { Shown };
+    ghost Value = { SystemView };
 
-    ghost view = { λ s. shown_of (caps_in (I.opening s.machine)) (homes_in (I.opening s.machine)) (I.seen s.machine) (I.wait_lists s.machine)
+    ghost view = { λ s. shown_of (caps_in (I.opening s.machine)) (homes_in (I.opening s.machine)) (I.history s.machine) (I.wait_lists s.machine)
         (I.owner s.machine) (I.moves s.machine) (I.acts s.machine)
-        (map (λ c. cpu_shown (threads_in (I.own c.part)) c.guests.items c.trace.items c.limit (I.is_inside c.part) (I.own c.part)) s.cpus.items) s.room
+        (map (λ c. cpu_shown (threads_in (I.local c.part)) c.guests.items c.trace.items c.limit (I.is_inside c.part) (I.local c.part)) s.cpus.items) s.room
         s.taken };
 
-    ghost invariant = { λ s. IsSystem (λ c. I.Fits c.part s.machine × (I.cpu_of c.part ≡ c.number)
-        × IsCpu (homes_in (I.opening s.machine)) (length (caps_in (I.opening s.machine))) (I.seen s.machine) (threads_in (I.own c.part))
-        (I.own c.part).call_states (I.under_way c.part) c.number c.guests.items c.trace.items c.limit (vec_capacity c.trace)
-        × (I.IsStepwise → IsTabled (homes_in (I.opening s.machine)) (caps_in (I.opening s.machine)) c.number (I.own c.part) (I.under_way c.part)
+    ghost invariant = { λ s. IsSystem (λ c. I.Coupled c.part s.machine × (I.cpu_of c.part ≡ c.number)
+        × IsCpu (homes_in (I.opening s.machine)) (length (caps_in (I.opening s.machine))) (I.history s.machine) (threads_in (I.local c.part))
+        (I.local c.part).call_states (I.under_way c.part) c.number c.guests.items c.trace.items c.limit (vec_capacity c.trace)
+        × (I.IsStepwise → IsTabled (homes_in (I.opening s.machine)) (caps_in (I.opening s.machine)) c.number (I.local c.part) (I.under_way c.part)
         c.guests.items (I.opening s.machine)))
         (λ c. c.number) (λ c. I.ActsFor s.machine c) (λ c. I.MayHold s.machine c) I.IsStepwise (I.acts s.machine) s.cpus.items
-        (homes_in (I.opening s.machine)) (I.seen s.machine) s.room s.taken (I.room s.machine)
+        (homes_in (I.opening s.machine)) (I.history s.machine) s.room s.taken (I.room s.machine)
         ((s.threads ≡ length (homes_in (I.opening s.machine))) × (I.IsStepwise
-        → IsReachedByTable (shown_of (caps_in (I.opening s.machine)) (homes_in (I.opening s.machine)) (I.seen s.machine) (I.wait_lists s.machine)
+        → IsReachedByTable (shown_of (caps_in (I.opening s.machine)) (homes_in (I.opening s.machine)) (I.history s.machine) (I.wait_lists s.machine)
         (I.owner s.machine) (I.moves s.machine) (I.acts s.machine)
-        (map (λ c. cpu_shown (threads_in (I.own c.part)) c.guests.items c.trace.items c.limit (I.is_inside c.part) (I.own c.part)) s.cpus.items) s.room
+        (map (λ c. cpu_shown (threads_in (I.local c.part)) c.guests.items c.trace.items c.limit (I.is_inside c.part) (I.local c.part)) s.cpus.items) s.room
         s.taken))) };
 }
 
@@ -73,7 +73,7 @@ where
     ghost use Rattle.{event_log.specs.{declared.ids.TheConstants.THREADS, Buffers.items_of}, cpu.specs.{Cpus.step_answer, Sound.{RanByTable, ReturnsAlone}}};
     ghost use Rattle.cpu.specs.{Linear.{CallsGoOn, IsLinearizable}, Sound.SoundByTable, Observed.ObservedByTable};
     ghost use Rattle.cpu.specs.Systems.{HaltsByTable, Ran, SamePlan, SteppedByTable, halted_in, reason_of};
-    ghost use Rattle.cpu.specs.Claims.{FollowPrograms, HasOneOrder, IsPlaceOf, MovesAgree, StandsOnce, StayHome, shown_of, traces_of};
+    ghost use Rattle.cpu.specs.Claims.{MatchesPrograms, HasLinearization, IsPlaceOf, MovesAgree, HasUniquePlace, KeepsAffinity, shown_of, traces_of};
 
     /// Takes one step of `cpu`: one local action or one atomic action.
     ///
@@ -104,10 +104,10 @@ where
         ensures observed { I.IsStepwise → ObservedByTable self.new }
 
         // This holds after every list of steps.
-        ensures one_order { HasOneOrder self.new }
-        ensures follow { FollowPrograms self.new }
-        ensures stay { StayHome self.new }
-        ensures once { StandsOnce self.new }
+        ensures linearization { HasLinearization self.new }
+        ensures follow { MatchesPrograms self.new }
+        ensures stay { KeepsAffinity self.new }
+        ensures once { HasUniquePlace self.new }
         ensures agree { MovesAgree self.new }
     {
         if let Some(reason) = self.reason(cpu) {
@@ -167,10 +167,10 @@ where
         ensures plan { SamePlan self.old self.new }
 
         // This holds after every list of steps.
-        ensures one_order { HasOneOrder self.new }
-        ensures follow { FollowPrograms self.new }
-        ensures stay { StayHome self.new }
-        ensures once { StandsOnce self.new }
+        ensures linearization { HasLinearization self.new }
+        ensures follow { MatchesPrograms self.new }
+        ensures stay { KeepsAffinity self.new }
+        ensures once { HasUniquePlace self.new }
         ensures agree { MovesAgree self.new }
     {
         if !are_below(steps, self.cpus.len()) {
@@ -202,11 +202,11 @@ where
         ensures table { I.IsStepwise → RanByTable self.old (take result steps.now) self.new }
     {
         let cpu = steps[0];
-        let own = steps_behind(cpu, &steps[1..]) + 1;
+        let local = steps_behind(cpu, &steps[1..]) + 1;
         if self.reason(cpu).is_some() {
-            return own;
+            return local;
         }
-        let most = (self.room - self.taken).min(own as u64) as usize;
+        let most = (self.room - self.taken).min(local as u64) as usize;
         let at = &mut self.cpus[usize::from(cpu.0)];
         let taken = at.run(&mut self.machine, most);
         let looks = at.spin(&mut self.machine, &steps[taken..most]);
@@ -350,7 +350,7 @@ where
         ensures acts { (c : CpuId) → c.0 < CPUS → I.ActsFor result.now c }
         ensures shows { self.now
             ≡ shown_of (caps_in (I.opening result.now)) (homes_in (I.opening result.now))
-            (I.seen result.now) (I.wait_lists result.now)
+            (I.history result.now) (I.wait_lists result.now)
             (I.owner result.now) (I.moves result.now) (I.acts result.now) self.now.cpus
             self.now.room self.now.taken }
     {
@@ -362,10 +362,10 @@ where
         ensures sound { I.IsStepwise → SoundByTable self.now }
         ensures agree { MovesAgree self.now }
         ensures observed { I.IsStepwise → ObservedByTable self.now }
-        ensures one_order { HasOneOrder self.now }
-        ensures follow { FollowPrograms self.now }
-        ensures stay { StayHome self.now }
-        ensures once { StandsOnce self.now }
+        ensures linearization { HasLinearization self.now }
+        ensures follow { MatchesPrograms self.now }
+        ensures stay { KeepsAffinity self.now }
+        ensures once { HasUniquePlace self.now }
     {
         let _ = &self.room;
     }

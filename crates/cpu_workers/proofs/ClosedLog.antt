@@ -15,9 +15,9 @@ use Rattle.layer_traits.specs.{Protocols.{OneLock.opened, WordsProtocol.{MayCome
 use Rattle.layer_traits.proofs.{KernelRenaming.{homes_viewed, proper_renamed, seen_renamed, starts_viewed, viewed_there}, NestedLemmas.lawful_events}
 use Rattle.layer_traits.proofs.{NestedLemmas.lawful_proper, PlanRenaming.block_viewed, Seen.{sections_allowed, words_legal}}
 use Rattle.sleep_wakeup.specs.{Laws.NestedLaws.nested_lawful, Nested.{nested_edited, nested_moves, nested_rules, state_of}}
-use Rattle.queuing_lock.specs.{declared.edits.QLockEdit.QLockEdit, Laws.NestedLaws.locks_lawful, Nested.{busy_rules, nested_lock_of}}
+use Rattle.queuing_lock.specs.{declared.edits.QLockSection.QLockSection, Laws.NestedLaws.locks_lawful, Nested.{busy_rules, nested_lock_of}}
 use Rattle.fifo_buffer.{specs.Laws.{OwnedLaws.items_acted, Tallies.effects_lawful}, proofs.Opening.{boots_well, caps_are}}
-use Rattle.{table_machine.specs.SeatViews.TableView, cpu.specs.{Table.{Setups.{Setup, opening as table_opening}, Steps.block_at}, Tower.Composed.named}}
+use Rattle.{table_machine.specs.SeatViews.TableView, cpu.specs.{Table.{Setups.{SystemConfig, opening as table_opening}, Steps.block_at}, Tower.Composed.named}}
 use Rattle.cpu.{specs.Tower.Views.{TowerBlock, TowerName, view}, proofs.StepTable.{TableCalls.opens_so as opens_as, PartsOfTable.block_read}}
 use Rattle.cpu_workers.specs.{Closing.{LockBlock, LockEdit, StartsSo, WordsOfTower, acts_in, blocks_read, seen_above, tower_rules}, Lawful.messages_in}
 use Rattle.cpu_workers.specs.Orders.{effects_of}
@@ -59,7 +59,7 @@ given_back left at (o ∷ start) (x ∷ blocks) count each none =
     let is : x ≡ (o.0, here.0) = cc here.1 in
     grind (arith, is, here.2, same_lock_true o.0 at, given_back left at start blocks (omega (arith, count)) (λ i z found. each (suc i) z found))
 
-module _ (setup : Setup) (table_view : TableView (QueueBlock LockBlock)) (so : StartsSo setup table_view) (log : WordsOfTower)
+module _ (setup : SystemConfig) (table_view : TableView (QueueBlock LockBlock)) (so : StartsSo setup table_view) (log : WordsOfTower)
     (legal : IsLawful (MayCome (tower_rules.allowed (opened table_view.start))) log) where
   abbrev opening : LockId → Option (QueueBlock LockBlock)
   opening = opened table_view.start
@@ -75,7 +75,7 @@ module _ (setup : Setup) (table_view : TableView (QueueBlock LockBlock)) (so : S
   abbrev acts_words : List (Action (QueueEdit LockEdit))
   acts_words = acts_of edit_of log
 
-  abbrev acts_slept : List (Action (QueueEdit (QLockEdit (CvEdit BufferEdit) CvLeave)))
+  abbrev acts_slept : List (Action (QueueEdit (QLockSection (CvEdit BufferEdit) CvLeave)))
   acts_slept = map (renamed (renamed_edit sleep.slept_edit)) acts_words
 
   -- The actions are legal.

@@ -16,14 +16,14 @@ some_where_not_none o not_none = grind arith
 -- a block that the sections of a number that was 0 leave is the number of releases
 pub block_counts : (opening : LockId → Option ℕ) (lock : LockId) (acts : List (Action AddOne)) (past : List (Section AddOne)) (block : ℕ)
     → opening lock ≡ Some 0 → past ≡ sections_in acts → block_after counting.edited opening lock past ≡ Some block → block ≡ gives lock acts % 2 ^ 64
-block_counts opening lock acts past block zeroth seen leaves =
+block_counts opening lock acts past block zeroth history leaves =
     let same : Some block ≡ Some (sections_at lock past % 2 ^ 64) = sym leaves ∙ number_is opening lock past zeroth in
     let number : block ≡ sections_at lock past % 2 ^ 64 = (cc same) in
-    number ∙ ap (λ n. n % 2 ^ 64) (ap (sections_at lock) seen ∙ gives_are_sections lock acts)
+    number ∙ ap (λ n. n % 2 ^ 64) (ap (sections_at lock) history ∙ gives_are_sections lock acts)
 
 -- the block of a number that no CPU holds is there
-pub there_at_rest : {P A : Type 0} (Fits : P → Type 0) (cpu_of : P → CpuId) (MayHold : CpuId → Type 0) (acts : List (Action AddOne)) (here : P → Option A)
-    (home truth : Option A) → ((c : CpuId) → MayHold c → is_in_section (phase c acts) ≡ true) → IsObserved Fits cpu_of MayHold here home truth
+pub there_at_rest : {P A : Type 0} (Coupled : P → Type 0) (cpu_of : P → CpuId) (MayHold : CpuId → Type 0) (acts : List (Action AddOne)) (here : P → Option A)
+    (home truth : Option A) → ((c : CpuId) → MayHold c → is_in_section (phase c acts) ≡ true) → IsObserved Coupled cpu_of MayHold here home truth
     → ((c : CpuId) → phase c acts ≡ Rests) → home ≡ None → ⊥
-there_at_rest Fits cpu_of MayHold acts here home truth holding shown rests away =
+there_at_rest Coupled cpu_of MayHold acts here home truth holding shown rests away =
     let held = shown.somewhere away in grind (arith, holding held.cpu held.inside, rests held.cpu)

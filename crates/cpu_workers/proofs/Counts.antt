@@ -40,13 +40,13 @@ goes_on under_way answered s t is waits same = grind arith
 
 -- a key that was returned from a seat at its table
 pub has_made : {E B : Type 0} (lock : LockId) (old new : SeatView E B) (cpu : CpuId) (times : ℕ) → cpu ≡ old.cpu → cpu ≡ new.cpu
-    → site_of new.table ≡ site_of old.table → lock_phase cpu new.seen ≡ Idle
-    → made cpu lock (sections new.seen) ≡ made cpu lock (sections old.seen) + times → HasMade lock old new times
+    → site_of new.table ≡ site_of old.table → lock_phase cpu new.history ≡ Idle
+    → made cpu lock (sections new.history) ≡ made cpu lock (sections old.history) + times → HasMade lock old new times
 has_made lock old new cpu times of is table outside more = record {
   cpu = sym is ∙ of;
   table = one_site new.table old.table table;
-  outside = subst (λ c. lock_phase c new.seen ≡ Idle) is outside;
-  more = subst (λ c. made c lock (sections new.seen) ≡ made c lock (sections old.seen) + times) of more;
+  outside = subst (λ c. lock_phase c new.history ≡ Idle) is outside;
+  more = subst (λ c. made c lock (sections new.history) ≡ made c lock (sections old.history) + times) of more;
 }
 
 -- Numbers of CPUs, added up.
@@ -100,9 +100,9 @@ module _ (times : ℕ) (table_view : TableView ℕ) (came : List (SeatView AddOn
       let secs = sections closes.log in
       let own_made : (k : ℕ) → k < table_view.cpus → made (cpu_at k) NUMBER secs ≡ times = λ k below. (
       let here = came_at table_view (λ d e. HasMade NUMBER d e times) table_view.cpus came all k below in
-      let whole : own_events cpu_of_event (cpu_at k) closes.log ≡ own_events cpu_of_event (cpu_at k) here.0.seen
-      = subst (λ c. own_events cpu_of_event c closes.log ≡ own_events cpu_of_event c here.0.seen) here.2.cpu (closes.keys k here.0 here.1).whole in
-      ap (sections_at NUMBER) (own_sections (cpu_at k) closes.log ∙ (ap sections whole ∙ sym (own_sections (cpu_at k) here.0.seen)))
+      let whole : own_events cpu_of_event (cpu_at k) closes.log ≡ own_events cpu_of_event (cpu_at k) here.0.history
+      = subst (λ c. own_events cpu_of_event c closes.log ≡ own_events cpu_of_event c here.0.history) here.2.cpu (closes.keys k here.0 here.1).whole in
+      ap (sections_at NUMBER) (own_sections (cpu_at k) closes.log ∙ (ap sections whole ∙ sym (own_sections (cpu_at k) here.0.history)))
       ∙ (here.2.more ∙ zero-add times)) in
       let known = all_within cpu_of_section table_view.cpus secs (λ c large. own_sections c closes.log ∙ ap sections (closes.rest c large)) in
       sym (frees_are_sections edit_of NUMBER closes.log)

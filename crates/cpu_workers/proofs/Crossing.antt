@@ -5,32 +5,32 @@ use denote.Ref.{NamedLft}
 use denote.Hole.{as_row}
 use denote.Param.SendFields.{declared_send}
 use denote.Param.Send.{IsSend, IsSync, sendable, array_send, enum_send, enum_sync, recorded_send, recorded_sync, view_send}
-use Rattle.{std.{proofs.Crossing.crosses, specs.contracts.option.Option.the_row as option_row}, layer_traits.specs.Blocks.Payloads.{buffer_meant, buffer_told}}
-use Rattle.layer_traits.specs.Blocks.Payloads.{cv_meant, cv_told, lock_told, queue_meant, queue_told}
-use Rattle.layer_traits.specs.contracts.queue_edits.QueueBlock.{the_field as block_field, the_row as block_row, the_type as block_type}
-use Rattle.layer_traits.specs.contracts.queue_edits.{QueueEdit.the_row as edit_row, QueueAnswer.the_row as queue_answer_row}
+use Rattle.{std.{proofs.Crossing.crosses, specs.contracts.option.Option.the_row as option_row}, layer_traits.specs.Blocks.Payloads.abstract_buffer_edit}
+use Rattle.layer_traits.specs.Blocks.Payloads.{abstract_buffer_answer, abstract_cv_edit, abstract_cv_answer, abstract_lock_answer, abstract_queue_edit}
+use Rattle.layer_traits.specs.{Blocks.Payloads.abstract_queue_answer, contracts.queue_edits.QueueBlock.{the_field as block_field, the_row as block_row}}
+use Rattle.layer_traits.specs.contracts.queue_edits.{QueueBlock.the_type as block_type, QueueEdit.the_row as edit_row, QueueAnswer.the_row as queue_answer_row}
 use Rattle.layer_traits.specs.contracts.{queue_edits.BareQueueAnswer.the_row as bare_answer_row, calls.Call.the_row as call_row}
 use Rattle.layer_traits.specs.contracts.{call_states.CallState.{the_row as call_state_row, the_type as call_state_type}, payloads.Ghost.the_row as ghost_of_row}
-use Rattle.layer_traits.specs.contracts.conditions.{CvEdit.the_row as cv_edit_row, CvLeave.the_row as cv_leave_row, CvOut.the_row as cv_out_row}
+use Rattle.layer_traits.specs.contracts.conditions.{CvEdit.the_row as cv_edit_row, CvLeave.the_row as cv_leave_row, CvReply.the_row as cv_out_row}
 use Rattle.layer_traits.specs.contracts.buffer_edits.{BufferEdit.the_row as buffer_edit_row, BareBufferEdit.the_row as bare_edit_row}
-use Rattle.layer_traits.specs.contracts.buffer_edits.{BufferOut.the_row as buffer_out_row, BareBufferOut.the_row as bare_out_row}
+use Rattle.layer_traits.specs.contracts.buffer_edits.{BufferReply.the_row as buffer_out_row, BareBufferReply.the_row as bare_out_row}
 use Rattle.layer_traits.specs.contracts.{edits.Mark.the_row as mark_row, buffer_blocks.BufferBlock.the_row as buffer_block_row}
-use Rattle.layer_traits.specs.contracts.{sleeps.Outcome.the_row as outcome_row, locked.QOut.the_row as lock_out_row}
+use Rattle.layer_traits.specs.contracts.{sleeps.Outcome.the_row as outcome_row, locked.QLockReply.the_row as lock_out_row}
 use Rattle.layer_traits.proofs.block_box.BlockBox.TheSendSync.{the_send as box_send, the_sync as box_sync}
-use Rattle.layer_traits.proofs.{buffer_edits.BareBufferOut.TheSendSync.the_send as bare_out_send, conditions.CvOut.TheSendSync.the_send as cv_out_send}
-use Rattle.layer_traits.proofs.{locked.QOut.TheSendSync.the_send as lock_out_send, sleeps.Outcome.TheSendSync.the_send as outcome_send}
-use Rattle.layer_traits.proofs.payloads.{Parcel.TheSendSync.the_send as parcel_send, Payload.TheSendSync.the_send as payload_send}
+use Rattle.layer_traits.proofs.{buffer_edits.BareBufferReply.TheSendSync.the_send as bare_out_send, conditions.CvReply.TheSendSync.the_send as cv_out_send}
+use Rattle.layer_traits.proofs.{locked.QLockReply.TheSendSync.the_send as lock_out_send, sleeps.Outcome.TheSendSync.the_send as outcome_send}
+use Rattle.layer_traits.proofs.payloads.{MessageSlot.TheSendSync.the_send as parcel_send, Payload.TheSendSync.the_send as payload_send}
 use Rattle.layer_traits.proofs.{call_states.Stage.TheSendSync.the_send as stage_send, calls.Effect.TheSendSync.the_send as effect_send}
 use Rattle.layer_traits.proofs.buffer_blocks.BufferBlock.TheSendSync.{the_send as buffer_block_send, the_sync as buffer_block_sync}
-use Rattle.queuing_lock.specs.{Nested.section_meant, contracts.edits.{QLockEdit.the_row as lock_edit_row, QBlock.the_row as lock_block_row}}
-use Rattle.{queuing_lock.proofs.edits.QBlock.TheSendSync.{the_send as lock_block_send, the_sync as lock_block_sync}, sleep_wakeup.specs.Nested.nested_meant}
-use Rattle.sleep_wakeup.specs.{Nested.nested_told, contracts.edits.{SleepEdit.the_row as sleep_edit_row, SleepBlock.the_row as sleep_block_row}}
-use Rattle.sleep_wakeup.specs.contracts.{deferred.DeferredOutcome.{the_row as deferred_row, the_type as deferred_type}, sleeper.Sleeper.the_row as sleeper_row}
-use Rattle.sleep_wakeup.{specs.contracts.sleeper.Sleeper.the_type as sleeper_type, proofs.edits.SleepBlock.TheSendSync.the_send as sleep_block_send}
-use Rattle.{sleep_wakeup.proofs.edits.SleepBlock.TheSendSync.the_sync as sleep_block_sync, event_log.specs.declared.ids.TheConstants.THREADS}
-use Rattle.table_machine.{proofs.Crossing.{ghost_send, seat_send}, specs.contracts.seats.Seat.the_field as table_seat_field}
-use Rattle.thread_blocks.{specs.contracts.queues.ThreadQueue.the_row as queue_row, proofs.queues.ThreadQueue.TheSendSync.the_send as queue_send}
-use Rattle.thread_blocks.proofs.queues.ThreadQueue.TheSendSync.{the_sync as queue_sync}
+use Rattle.queuing_lock.specs.{Nested.abstract_lock_section, contracts.edits.{QLockSection.the_row as lock_edit_row, QLockBlock.the_row as lock_block_row}}
+use Rattle.queuing_lock.proofs.edits.QLockBlock.TheSendSync.{the_send as lock_block_send, the_sync as lock_block_sync}
+use Rattle.sleep_wakeup.specs.{Nested.{abstract_nested_edit, abstract_nested_answer}, contracts.edits.SleepEdit.the_row as sleep_edit_row}
+use Rattle.sleep_wakeup.specs.contracts.{edits.SleepBlock.the_row as sleep_block_row, deferred.DeferredOutcome.the_row as deferred_row}
+use Rattle.sleep_wakeup.specs.contracts.{deferred.DeferredOutcome.the_type as deferred_type, sleeper.Sleeper.{the_row as sleeper_row, the_type as sleeper_type}}
+use Rattle.sleep_wakeup.proofs.edits.SleepBlock.TheSendSync.{the_send as sleep_block_send, the_sync as sleep_block_sync}
+use Rattle.{event_log.specs.declared.ids.TheConstants.THREADS, table_machine.proofs.Crossing.{ghost_send, seat_send}}
+use Rattle.{table_machine.specs.contracts.seats.Seat.the_field as table_seat_field, thread_blocks.specs.contracts.queues.ThreadQueue.the_row as queue_row}
+use Rattle.thread_blocks.proofs.queues.ThreadQueue.TheSendSync.{the_send as queue_send, the_sync as queue_sync}
 use Rattle.fifo_buffer.specs.contracts.{call_state_table.CallStates.{the_row as call_states_row, the_type as call_states_type}, fifo.Fifo.the_row as fifo_row}
 use Rattle.{fifo_buffer.specs.contracts.fifo.Fifo.the_type as fifo_type, spinlock.specs.contracts.spin_lock.SpinLock.the_row as spin_lock_row}
 use Rattle.spinlock.{specs.contracts.spin_lock.SpinLock.the_type as spin_lock_type, proofs.stages.TicketPhase.TheSendSync.the_send as ticket_phase_send}
@@ -110,8 +110,8 @@ answer = queue_answer_row (outcome_row (lock_out_of buffer_out_row))
 abbrev handed : RattleType
 handed = edit_over bare_edit_row
 
-abbrev brought : RattleType
-brought = bare_answer_row (outcome_row (lock_out_of bare_out_row))
+abbrev response : RattleType
+response = bare_answer_row (outcome_row (lock_out_of bare_out_row))
 
 abbrev guarded : RattleType
 guarded = block_row (sleep_block_row (lock_block_row buffer_block_row))
@@ -119,10 +119,10 @@ guarded = block_row (sleep_block_row (lock_block_row buffer_block_row))
 -- a seat may be sent from thread to thread, whatever its words are
 pub tower_seat_send : (a : NamedLft) (K : RattleType) (k : _) → IsSend (seat_row a K k)
 tower_seat_send a K k = view_send _ _ _ _ _ (declared_send (inside_type a K k) (
-  seat_part a edit K _ answer handed brought (record {
-    rules = _;
-    meant = queue_meant (nested_meant (section_meant (cv_meant buffer_meant)));
-    told = queue_told (nested_told (lock_told (cv_told buffer_told)));
+  seat_part a edit K _ answer handed response (record {
+    protocol = _;
+    abstract_call = abstract_queue_edit (abstract_nested_edit (abstract_lock_section (abstract_cv_edit abstract_buffer_edit)));
+    told = abstract_queue_answer (abstract_nested_answer (abstract_lock_answer (abstract_cv_answer abstract_buffer_answer)));
   }) _
       tower_block_send tower_block_sync,
   (search (sendable, crosses, bells_sync) depth 9, tt),
@@ -130,8 +130,8 @@ tower_seat_send a K k = view_send _ _ _ _ _ (declared_send (inside_type a K k) (
 
 -- and so does a lock over it
 pub turn_send : (a : NamedLft) (K : RattleType) (k : _) (LockProtocol : RattleType)
-    → IsSend (spin_lock_row (seat_row a K k) LockProtocol edit (mark_row edit) guarded answer handed brought)
-turn_send a K k LockProtocol = declared_send (spin_lock_type (seat_row a K k) LockProtocol edit (mark_row edit) guarded answer handed brought) (
+    → IsSend (spin_lock_row (seat_row a K k) LockProtocol edit (mark_row edit) guarded answer handed response)
+turn_send a K k LockProtocol = declared_send (spin_lock_type (seat_row a K k) LockProtocol edit (mark_row edit) guarded answer handed response) (
   search (sendable, crosses),
   (
     ticket_phase_send (ghost_of_row edit) guarded (ghost_send edit) tower_block_send,

@@ -7,29 +7,29 @@ use Rattle.cpu_workers.proofs.Joining.{room_for, yield_more}
 
 -- The invariant of such a loop: these elements are done, and for each the other list has what
 -- belongs to it.
-pub record Filling {A B : Type 0} (Fits : A → B → Type 0) (all past rest : List A) (done : List B) (capacity : ℕ) : Type 0 where
+pub record Filling {A B : Type 0} (Coupled : A → B → Type 0) (all past rest : List A) (done : List B) (capacity : ℕ) : Type 0 where
   pub whole : past ++ rest ≡ all
-  pub each : Both Fits past done
+  pub each : Both Coupled past done
   pub room : length all ≤ capacity
 
-module _ {A B : Type 0} {Fits : A → B → Type 0} {all rest : List A} {done : List B} {capacity : ℕ} where
-  pub filled_none : rest ≡ all → done ≡ [] → length all ≤ capacity → Filling Fits all [] rest done capacity
-  filled_none is none room = record { whole = is; each = subst (λ ys. Both Fits [] ys) (sym none) tt; room = room }
+module _ {A B : Type 0} {Coupled : A → B → Type 0} {all rest : List A} {done : List B} {capacity : ℕ} where
+  pub filled_none : rest ≡ all → done ≡ [] → length all ≤ capacity → Filling Coupled all [] rest done capacity
+  filled_none is none room = record { whole = is; each = subst (λ ys. Both Coupled [] ys) (sym none) tt; room = room }
 
-  pub has_room : {past later : List A} {x : A} {n : ℕ} → Filling Fits all past rest done capacity → rest ≡ x ∷ later → n ≡ length done → n < capacity
+  pub has_room : {past later : List A} {x : A} {n : ℕ} → Filling Coupled all past rest done capacity → rest ≡ x ∷ later → n ≡ length done → n < capacity
   has_room {past} {later} {x} {n} filling is count =
-      room_for past rest later all done x n capacity filling.whole is filling.room (both_length Fits past done filling.each) count
+      room_for past rest later all done x n capacity filling.whole is filling.room (both_length Coupled past done filling.each) count
 
-  pub filled_one : {past later : List A} {x : A} {y : B} {more : List B} {now : ℕ} → Filling Fits all past rest done capacity → rest ≡ x ∷ later
-      → more ≡ done ++ y ∷ [] → now ≡ capacity → Fits x y → Filling Fits all (past ++ x ∷ []) later more now
-  filled_one {past} {later} {x} {y} filling is grown same fits = record {
+  pub filled_one : {past later : List A} {x : A} {y : B} {more : List B} {now : ℕ} → Filling Coupled all past rest done capacity → rest ≡ x ∷ later
+      → more ≡ done ++ y ∷ [] → now ≡ capacity → Coupled x y → Filling Coupled all (past ++ x ∷ []) later more now
+  filled_one {past} {later} {x} {y} filling is grown same coupled = record {
     whole = yield_more past rest later all x filling.whole is;
-    each = subst (λ ys. Both Fits (past ++ x ∷ []) ys) (sym grown) (both_more Fits past done x y filling.each fits);
+    each = subst (λ ys. Both Coupled (past ++ x ∷ []) ys) (sym grown) (both_more Coupled past done x y filling.each coupled);
     room = subst (λ n. length all ≤ n) (sym same) filling.room;
   }
 
-  pub filled_all : {past : List A} {n : ℕ} → Filling Fits all past rest done capacity → n ≡ length rest → n ≡ 0 → Both Fits all done
-  filled_all {past} {n} filling count none = subst (λ xs. Both Fits xs done) (no_more past rest all n filling.whole count none) filling.each
+  pub filled_all : {past : List A} {n : ℕ} → Filling Coupled all past rest done capacity → n ≡ length rest → n ≡ 0 → Both Coupled all done
+  filled_all {past} {n} filling count none = subst (λ xs. Both Coupled xs done) (no_more past rest all n filling.whole count none) filling.each
 
 -- What a list is that was filled so.
 
@@ -38,9 +38,9 @@ module _ {A B C : Type 0} where
   both_maps f h [] ys same = grind arith
   both_maps f h (x ∷ xs) ys same = grind (arith, both_maps f h xs)
 
-  pub both_mapped : (Fits : C → B → Type 0) (h : A → C) (xs : List A) (ys : List B) → Both (λ x y. Fits (h x) y) xs ys → Both Fits (map h xs) ys
-  both_mapped Fits h [] ys fits = grind arith
-  both_mapped Fits h (x ∷ xs) ys fits = grind (arith, both_mapped Fits h xs)
+  pub both_mapped : (Coupled : C → B → Type 0) (h : A → C) (xs : List A) (ys : List B) → Both (λ x y. Coupled (h x) y) xs ys → Both Coupled (map h xs) ys
+  both_mapped Coupled h [] ys coupled = grind arith
+  both_mapped Coupled h (x ∷ xs) ys coupled = grind (arith, both_mapped Coupled h xs)
 
 pub both_are : {A B : Type 0} (h : A → B) (xs : List A) (ys : List B) → Both (λ x y. y ≡ h x) xs ys → ys ≡ map h xs
 both_are h [] ys same = grind arith

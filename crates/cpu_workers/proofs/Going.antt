@@ -19,7 +19,7 @@ went_more : (cpu : CpuId) (old now new mine others : List Entry) → of_cpu cpu 
 went_more cpu old now new mine others same is went = record {
   more = others ++ went.more;
   grows = is ∙ ap (λ l. others ++ l) went.grows ∙ sym (append_assoc others went.more old);
-  own = ap (of_cpu cpu) is ∙ same ∙ went.own;
+  local = ap (of_cpu cpu) is ∙ same ∙ went.local;
 }
 
 -- and by an entry of this CPU
@@ -28,20 +28,21 @@ went_one : (cpu : CpuId) (t : Tid) (call : Call) (f : Effect) (old now : List En
 went_one cpu t call f old now went = record {
   more = entry_of cpu t (buffer_of call) f ∷ went.more;
   grows = ap (λ l. entry_of cpu t (buffer_of call) f ∷ l) went.grows;
-  own = rw (same_cpu_self cpu) (ap (λ l. entry_of cpu t (buffer_of call) f ∷ l) went.own);
+  local = rw (same_cpu_self cpu) (ap (λ l. entry_of cpu t (buffer_of call) f ∷ l) went.local);
 }
 
 module _ (ActsFor : CpuId → Type 0) (cpu : CpuId) (acts : ActsFor cpu) where
   -- entries of others leave a CPU's own
   pub went_on : (old now new mine : List Entry) → OthersSeen ActsFor now new → Went cpu old now mine → Went cpu old new mine
-  went_on old now new mine seen went = went_more cpu old now new mine seen.others (cpu_same ActsFor cpu seen.others now seen.foreign acts) seen.is went
+  went_on old now new mine history went =
+      went_more cpu old now new mine history.others (cpu_same ActsFor cpu history.others now history.foreign acts) history.is went
 
   module _ (t : Tid) (call : Call) where
     -- whatever the call's progress, the call has the same progress after entries of others
     pub keeps_on : {call_states left : List CallState} {now new : List Entry} → OthersSeen ActsFor now new → left ≡ call_states
         → KeepsOn cpu t call call_states left now new
-    keeps_on {call_states} {left} {now} {new} seen same =
-        rw same (λ old on. record { may = on.may; one = on.one; went = went_on old now new _ seen on.went })
+    keeps_on {call_states} {left} {now} {new} history same =
+        rw same (λ old on. record { may = on.may; one = on.one; went = went_on old now new _ history on.went })
 
     -- a poll of the call has had its effect, or the call had it before, or has yet to have it
     pub polled : (call_states left : List CallState) (old now new : List Entry) (answer : Option Reply)
@@ -49,22 +50,22 @@ module _ (ActsFor : CpuId → Type 0) (cpu : CpuId) (acts : ActsFor cpu) where
         → Half cpu t call (call_state_of left t).effect old new
     polled call_states left old now new answer called on = go called.mine called.is called.fresh called.stays
       where
-        own : of_cpu cpu (called.others ++ now) ≡ of_cpu cpu now
-        own = cpu_same ActsFor cpu called.others now called.foreign acts
+        local : of_cpu cpu (called.others ++ now) ≡ of_cpu cpu now
+        local = cpu_same ActsFor cpu called.others now called.foreign acts
 
         go : (mine : Option Effect) → new ≡ option_to_list (option_map (entry_of cpu t (buffer_of call)) mine) ++ (called.others ++ now)
             → ((f : Effect) → mine ≡ Some f → ((going (call_state_of call_states t) call).effect ≡ None)
             × ((call_state_of left t).effect ≡ Some f) × IsEffectOf call f)
             → (mine ≡ None → (call_state_of left t).effect ≡ (going (call_state_of call_states t) call).effect)
             → Half cpu t call (call_state_of left t).effect old new
-        go None is fresh stays = rw (stays refl) (record { one = on.one; went = went_more cpu old now new _ called.others own is on.went })
+        go None is fresh stays = rw (stays refl) (record { one = on.one; went = went_more cpu old now new _ called.others local is on.went })
         go (Some f) is fresh stays =
             let it = fresh f refl in
             let before : Went cpu old now [] = subst (λ g. Went cpu old now (entries_of cpu t (buffer_of call) g)) it.0 on.went in
             subst (λ g. Half cpu t call g old new) (sym it.1) (record {
               one = it.2;
               went = subst (λ l. Went cpu old l (entry_of cpu t (buffer_of call) f ∷ [])) (sym is)
-                  (went_one cpu t call f old (called.others ++ now) (went_more cpu old now (called.others ++ now) [] called.others own refl before));
+                  (went_one cpu t call f old (called.others ++ now) (went_more cpu old now (called.others ++ now) [] called.others local refl before));
             })
 
 -- a call that continues is the one that its thread has begun
@@ -99,7 +100,7 @@ module _ (cpu : CpuId) (t : Tid) (call : Call) where
       let is : begun call ≡ going s call = sym (ap (λ stage. going_at stage s call) idle) in record {
         may = subst (λ (x : CallState). x.call ≡ Some call) is refl;
         one = subst (λ (x : CallState). IsOne call x.effect) is tt;
-        went = subst (λ (x : CallState). Went cpu old old (entries_of cpu t (buffer_of call) x.effect)) is (record { more = []; grows = refl; own = refl });
+        went = subst (λ (x : CallState). Went cpu old old (entries_of cpu t (buffer_of call) x.effect)) is (record { more = []; grows = refl; local = refl });
       }
 
 module _ (ActsFor : CpuId → Type 0) (cpu : CpuId) (acts : ActsFor cpu) {t : Tid} {call : Call} {call_states left : List CallState} {now new : List Entry}
@@ -120,8 +121,9 @@ module _ (ActsFor : CpuId → Type 0) (cpu : CpuId) (acts : ActsFor cpu) {t : Ti
   ended_idles some called = (subst (λ a. Answered call (call_state_of left t) a) some called.answers).0
 
 -- the thread that runs after a poll is the thread of the call
-pub runs_on : {A : Type 0} (t : Tid) (own left : Threads) (answer : Option A) → RunsOn t own left answer → is_some left.current ≡ true → left.current ≡ Some t
-runs_on t own left answer runs some = grind (arith, runs.current)
+pub runs_on : {A : Type 0} (t : Tid) (local left : Threads) (answer : Option A) → RunsOn t local left answer → is_some left.current ≡ true
+    → left.current ≡ Some t
+runs_on t local left answer runs some = grind (arith, runs.current)
 
 -- what is under way after a poll of the call
 pub calls_on : (t : Tid) (current : Option Tid) (answer : Option Reply) → answer ≡ None → current ≡ Some t → still_calling t current answer ≡ Some (Calling t)
@@ -135,11 +137,11 @@ pub asleep_calls_no_more : (t : Tid) (current : Option Tid) (answer : Option Rep
 asleep_calls_no_more t current answer none nobody = grind arith
 
 -- one poll of a pass that ends no thread leaves who has ended
-pub ended_on : {A : Type 0} (pass : Pass) (queue : List Tid) (own left : Threads) (answer : Option A) → pass ≢ End
-    → left ≡ (if is_some answer then pass_after pass queue own else own) → left.ended ≡ own.ended
-ended_on pass queue own left answer not is = grind arith
+pub ended_on : {A : Type 0} (pass : Pass) (queue : List Tid) (local left : Threads) (answer : Option A) → pass ≢ End
+    → left ≡ (if is_some answer then pass_after pass queue local else local) → left.ended ≡ local.ended
+ended_on pass queue local left answer not is = grind arith
 
 -- the thread whose call returns continues to run
-pub answers_run : (t : Tid) (own left : Threads) (answer : Option Reply) (reply : Reply) → answer ≡ Some reply → RunsOn t own left answer
+pub answers_run : (t : Tid) (local left : Threads) (answer : Option Reply) (reply : Reply) → answer ≡ Some reply → RunsOn t local left answer
     → left.current ≡ Some t
-answers_run t own left answer reply is ran = grind (arith, ran.current)
+answers_run t local left answer reply is ran = grind (arith, ran.current)

@@ -5,12 +5,12 @@ use Rattle.std.proofs.lemmas.List.Elements.{All-append, All-cons, All-nil}
 use Rattle.{layer_traits.proofs.PlanRenaming.map-append, event_log.proofs.ListLemmas.there_is, cpu_workers.specs.Reports.Both}
 pub use Rattle.table_machine.proofs.Returning.{all_tail, no_more, yield_more}
 
-module _ {A B : Type 0} (Fits : A → B → Type 0) where
-  pub both_more : (xs : List A) (ys : List B) (x : A) (y : B) → Both Fits xs ys → Fits x y → Both Fits (xs ++ x ∷ []) (ys ++ y ∷ [])
+module _ {A B : Type 0} (Coupled : A → B → Type 0) where
+  pub both_more : (xs : List A) (ys : List B) (x : A) (y : B) → Both Coupled xs ys → Coupled x y → Both Coupled (xs ++ x ∷ []) (ys ++ y ∷ [])
   both_more [] ys x y all one = grind arith
   both_more (w ∷ xs) ys x y all one = grind (arith, both_more xs)
 
-  pub both_length : (xs : List A) (ys : List B) → Both Fits xs ys → length ys ≡ length xs
+  pub both_length : (xs : List A) (ys : List B) → Both Coupled xs ys → length ys ≡ length xs
   both_length [] ys all = grind arith
   both_length (w ∷ xs) ys all = grind (arith, both_length xs)
 
@@ -38,10 +38,11 @@ both_then P Q S step [] ys zs p q = grind arith
 both_then P Q S step (x ∷ xs) ys zs p q = grind (arith, step, both_then P Q S step xs)
 
 -- a list is that of what belongs to each of it
-pub both_map : {A B : Type 0} (Fits : A → B → Type 0) (f : B → A) → ((a : A) (b : B) → Fits a b → f b ≡ a) → (xs : List A) (ys : List B) → Both Fits xs ys
+pub both_map : {A B : Type 0} (Coupled : A → B → Type 0) (f : B → A) → ((a : A) (b : B) → Coupled a b → f b ≡ a) → (xs : List A) (ys : List B)
+    → Both Coupled xs ys
     → map f ys ≡ xs
-both_map Fits f same [] ys fits = grind arith
-both_map Fits f same (x ∷ xs) ys fits = grind (arith, same, both_map Fits f same xs)
+both_map Coupled f same [] ys coupled = grind arith
+both_map Coupled f same (x ∷ xs) ys coupled = grind (arith, same, both_map Coupled f same xs)
 
 -- there is room for one more, while the list that it follows has one more
 pub room_for : {A B : Type 0} (ys xs rest all : List A) (zs : List B) (x : A) (n cap : ℕ) → ys ++ xs ≡ all → xs ≡ x ∷ rest
@@ -59,17 +60,17 @@ pub all_at : {X : Type 0} (P : X → Type 0) (xs : List X) (k : ℕ) (x : X) →
 all_at P xs k x all at = subst P (get_or_from_slice_get xs k x x at) (all k x (slice_get_within xs k x at))
 
 -- what belongs to the element at this number
-pub both_back : {A B : Type 0} (Fits : A → B → Type 0) (xs : List A) (ys : List B) → Both Fits xs ys → (k : ℕ) (y : B) → slice_get ys k ≡ Some y
-    → (x : A) × (slice_get xs k ≡ Some x) × Fits x y
-both_back Fits [] [] all k y at = absurd (cc at)
-both_back Fits [] (z ∷ ys) all k y at = absurd all
-both_back Fits (x ∷ xs) [] all k y at = absurd all
-both_back Fits (x ∷ xs) (z ∷ ys) all zero y at = let same : z ≡ y = cc at in (x, refl, subst (λ w. Fits x w) same all.0)
-both_back Fits (x ∷ xs) (z ∷ ys) all (suc k) y at = both_back Fits xs ys all.1 k y at
+pub both_back : {A B : Type 0} (Coupled : A → B → Type 0) (xs : List A) (ys : List B) → Both Coupled xs ys → (k : ℕ) (y : B) → slice_get ys k ≡ Some y
+    → (x : A) × (slice_get xs k ≡ Some x) × Coupled x y
+both_back Coupled [] [] all k y at = absurd (cc at)
+both_back Coupled [] (z ∷ ys) all k y at = absurd all
+both_back Coupled (x ∷ xs) [] all k y at = absurd all
+both_back Coupled (x ∷ xs) (z ∷ ys) all zero y at = let same : z ≡ y = cc at in (x, refl, subst (λ w. Coupled x w) same all.0)
+both_back Coupled (x ∷ xs) (z ∷ ys) all (suc k) y at = both_back Coupled xs ys all.1 k y at
 
 -- what belongs to a list belongs to it also as another value has it
-pub both_kept : {A B : Type 0} (Fits : A → B → Type 0) (xs : List A) {ys zs : List B} → zs ≡ ys → Both Fits xs ys → Both Fits xs zs
-both_kept Fits xs same all = subst (λ l. Both Fits xs l) (sym same) all
+pub both_kept : {A B : Type 0} (Coupled : A → B → Type 0) (xs : List A) {ys zs : List B} → zs ≡ ys → Both Coupled xs ys → Both Coupled xs zs
+both_kept Coupled xs same all = subst (λ l. Both Coupled xs l) (sym same) all
 
 -- what holds of each by its number holds of all
 pub all_by_number : {X : Type 0} (P : X → Type 0) (xs : List X) → ((k : ℕ) (x : X) → slice_get xs k ≡ Some x → P x) → All P xs
@@ -78,10 +79,11 @@ all_by_number P xs each k d below =
     subst P (sym (get_or_from_slice_get xs k there.0 d there.1)) (each k there.0 there.1)
 
 -- what holds of each of a list, and goes over to what belongs to it, holds of each of those
-pub both_all : {A B : Type 0} (Fits : A → B → Type 0) (P : A → Type 0) (Q : B → Type 0) → ((a : A) (b : B) → Fits a b → P a → Q b) → (xs : List A) (ys : List B)
-    → Both Fits xs ys → All P xs → All Q ys
-both_all Fits P Q over xs ys fits all =
-    all_by_number Q ys (λ k y at. let of = both_back Fits xs ys fits k y at in over of.0 y of.2 (all_at P xs k of.0 all of.1))
+pub both_all : {A B : Type 0} (Coupled : A → B → Type 0) (P : A → Type 0) (Q : B → Type 0) → ((a : A) (b : B) → Coupled a b → P a → Q b)
+    → (xs : List A) (ys : List B)
+    → Both Coupled xs ys → All P xs → All Q ys
+both_all Coupled P Q over xs ys coupled all =
+    all_by_number Q ys (λ k y at. let of = both_back Coupled xs ys coupled k y at in over of.0 y of.2 (all_at P xs k of.0 all of.1))
 
 -- what holds of all of a list, and of one more after them, holds of them all
 pub all_more : {A : Type 0} (P : A → Type 0) (xs ys : List A) (x : A) → ys ≡ xs ++ x ∷ [] → All P xs → P x → All P ys

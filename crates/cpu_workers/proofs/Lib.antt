@@ -6,7 +6,7 @@ pub mod Filling
 pub mod TableKeys
 pub mod Lasting
 pub mod OneOrder
-pub mod Fronts
+pub mod Prefixes
 pub mod ClosedLog
 pub mod Reporting
 pub mod Scheduled

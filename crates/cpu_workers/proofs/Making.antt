@@ -15,8 +15,8 @@ carries : (k : Kind) (closed : Bool) (capacity : ℕ) (items : List Message) (va
 carries k closed capacity items value allowed = grind arith
 
 -- a CPU's newest effect is one that may occur
-pub newest_carries : (caps : List ℕ) (cpu : CpuId) (seen : List Entry) (e : Entry) (rest : List Entry) → IsLawful (MayTakeEffect caps) seen
-    → of_cpu cpu seen ≡ e ∷ rest → CarriesNone e.kind e.value
+pub newest_carries : (caps : List ℕ) (cpu : CpuId) (history : List Entry) (e : Entry) (rest : List Entry) → IsLawful (MayTakeEffect caps) history
+    → of_cpu cpu history ≡ e ∷ rest → CarriesNone e.kind e.value
 newest_carries caps cpu [] e rest lawful is = absurd (cc is)
 newest_carries caps cpu (x ∷ past) e rest lawful is = grind (arith, newest_carries caps cpu past e rest lawful.1, carries x.kind _ _ _ x.value lawful.0.allowed)
 

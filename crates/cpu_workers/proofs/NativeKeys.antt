@@ -11,17 +11,17 @@ module _ {N X : Type 0} (Kept : N → N → CallerView → Type 0) (caps : List 
   pub have_left : (seats : List Key) → seats ≡ new_seat_views table_view (length natives) → length left ≡ length seats
       → ((k : ℕ) (x : X) (m : Key) → slice_get left k ≡ Some x → slice_get seats k ≡ Some m → site_of (machine x).table ≡ site_of m.table)
       → ((k : ℕ) (x : X) → slice_get left k ≡ Some x
-      → (cpu_at k ≡ (machine x).cpu) × IsLawful (MayCome (tower_rules.allowed (opened (machine x).start))) (machine x).seen)
+      → (cpu_at k ≡ (machine x).cpu) × IsLawful (MayCome (tower_rules.allowed (opened (machine x).start))) (machine x).history)
       → ((k : ℕ) (x : X) (n : N) → slice_get left k ≡ Some x → slice_get natives k ≡ Some n
       → HasLeftCalls Kept caps (cpu_at k) n (native_of x) (tower_acts (acts (machine x))))
       → HaveLeftKeys Kept caps table_view natives (map native_of left) (map machine left)
-  have_left seats new count site owns has =
+  have_left seats new count machine_id owns has =
       let many : length left ≡ length natives = count ∙ as_many table_view (length natives) new in
       record {
         count = length-map left native_of ∙ many;
         keys_count = length-map left machine ∙ many;
         each = λ k native at.
-            let one = left_at table_view left machine acts same (length natives) seats new count site owns k (slice_get_within natives k native at) in
+            let one = left_at table_view left machine acts same (length natives) seats new count machine_id owns k (slice_get_within natives k native at) in
             let x = one.0 in
             let gone = rw one.3 at (has k x native one.1 at) in (
               native_of x,

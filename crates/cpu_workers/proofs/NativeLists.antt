@@ -19,9 +19,9 @@ all_ready Needs caller native caps natives tasks needs each = all_by_number (λ 
 
 -- a native that ran from a new caller leaves its calls
 pub calls_so : {N : Type 0} (Kept : N → N → CallerView → Type 0) (caps : List ℕ) (c : CpuId) (n first last after : N) (new done : CallerView)
-    (acts : List (Action TowerName)) (site : List ℕ) → first ≡ n → after ≡ last → IsNewCaller caps c new → HasKept Kept first new last done
-    → HasLeftMachine done acts site → HasLeftCalls Kept caps c n after acts
-calls_so Kept caps c n first last after new done acts site before same fresh ran left =
+    (acts : List (Action TowerName)) (machine_id : List ℕ) → first ≡ n → after ≡ last → IsNewCaller caps c new → HasKept Kept first new last done
+    → HasLeftMachine done acts machine_id → HasLeftCalls Kept caps c n after acts
+calls_so Kept caps c n first last after new done acts machine_id before same fresh ran left =
     let cpu : done.cpu ≡ c = ran.same.cpu ∙ fresh.cpu_is in
     let caps_is : done.caps ≡ caps = ran.same.caps ∙ fresh.caps_are in
     record {

@@ -5,7 +5,7 @@ use Rattle.cpu_workers.specs.{Natives.{HasRunNative, HaveLeftKeys, HaveRun, Open
 use Rattle.cpu_workers.specs.{Callers.CallerView, Closing.{Key, StartsSo, acts_in, tower_rules}, Orders.IsTraceOf, Seating.AnyBlock}
 use Rattle.{cpu_workers.proofs.TableOrder.{HasCome, traces_ordered}, event_log.specs.declared.{entries.Entry.Entry, ids.{CpuId.CpuId, LockId.LockId}}}
 use Rattle.{event_log.{specs.declared.ids.TheConstants.{BUFFERS, CPUS}, proofs.Streams.taken_put}, layer_traits.specs.Protocols.OneLock.opened}
-use Rattle.{layer_traits.specs.Threads.OnePlace.cpu_at, table_machine.specs.SeatViews.{ClosesTable, TableView}, cpu.specs.Table.Setups.Setup}
+use Rattle.{layer_traits.specs.Threads.OnePlace.cpu_at, table_machine.specs.SeatViews.{ClosesTable, TableView}, cpu.specs.Table.Setups.SystemConfig}
 use Rattle.cpu.proofs.ListFacts.ListReads.{shows_at, there_is}
 
 -- One of each.
@@ -38,7 +38,7 @@ module _ {N : Type 0} (Kept : N → N → CallerView → Type 0) (caps : List �
     (cpus : table_view.cpus ≡ length natives) (opens : OpensWith (length natives) caps (own_homes (length natives)) (opened table_view.start))
     (have : HaveLeftKeys Kept caps table_view natives after keys) (closes : ClosesTable tower_rules table_view keys blocks) where
   -- the table's setup: as many CPUs as natives, and room for all their calls
-  abbrev setup : Setup
+  abbrev setup : SystemConfig
   setup = record { cpus = length natives; homes = own_homes (length natives); programs = []; caps = caps; trace_room = MOST_CALLS }
 
   small : length natives * MOST_CALLS < 2 ^ 64
@@ -65,7 +65,7 @@ module _ {N : Type 0} (Kept : N → N → CallerView → Type 0) (caps : List �
     pub key_at : slice_get keys k ≡ Some key
     pub cpu_is : key.cpu ≡ cpu_at k
     pub run : HasRunNative Kept caps k native last caller
-    pub trace : IsTraceOf (cpu_at k) caps (acts_in key.seen) caller.calls
+    pub trace : IsTraceOf (cpu_at k) caps (acts_in key.history) caller.calls
     pub short : length caller.calls ≤ MOST_CALLS
 
   callers : Chosen Stands natives
@@ -97,7 +97,7 @@ module _ {N : Type 0} (Kept : N → N → CallerView → Type 0) (caps : List �
         key_at = stands.key_at;
         cpu_is = stands.cpu_is;
         trace_at = shows_at (λ (v : CallerView). v.calls) callers.list c.0 one.0 one.1;
-        own = stands.trace;
+        local = stands.trace;
         room = stands.short;
       }
 

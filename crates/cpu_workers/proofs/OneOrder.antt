@@ -5,7 +5,7 @@ use Rattle.std.proofs.{Common.{append_assoc, slice_index_or, refl, ap, sym, ◌�
 use Rattle.std.proofs.lemmas.{List.{reverse-append, Sums.{sum_by-cons, sum_by-le, sum_by-set}}, Option.{get_or_from_slice_get, slice_get_within}}
 use Rattle.std.specs.{List.{AllByRecursion, sum_by}, Prelude.slice_set}
 use Rattle.event_log.specs.{declared.{entries.Entry.Entry, ids.{CpuId.CpuId, LockId.TheVariants.Buffer}}, Actions.{Action, Take, Try, Give, cpu_of_action}}
-use Rattle.event_log.specs.{History.{AreOthers, IsLawful, own_events, same_cpu}, Runs.IsRun, Sections.sections_in, Traces.IsInterleaving}
+use Rattle.event_log.specs.{History.{AreOthers, IsLawful, own_events, same_cpu}, Runs.IsLegalHistory, Sections.sections_in, Traces.IsInterleaving}
 use Rattle.{event_log.proofs.Same.same_cpu_self, layer_traits.specs.declared.queue_edits.QueueEdit.TheVariants.{Push, TakeAll, Above}}
 use Rattle.layer_traits.specs.Blocks.{BufferEffects.{MayTakeEffect, contents_of, drawn, effect_of, opening_locks}, BufferProtocol.BufferSection}
 use Rattle.layer_traits.specs.{Blocks.BufferProtocol.buffer_lock_at, Threads.OnePlace.cpu_at, Protocols.Protocol.section, Layers.Queues.buffer_guarded}
@@ -53,7 +53,7 @@ module _ (caps : List ℕ) where
         more = e ∷ [];
         is = ap (λ (es : List Entry). reverse es) is ∙ reverse-append (e ∷ []) (effects_of caps past);
         few = omega arith;
-        own = (its e refl, tt);
+        local = (its e refl, tt);
       }
 
   -- what other CPUs do leaves a CPU's effects
@@ -75,17 +75,17 @@ module _ (caps : List ℕ) where
   of_both c [] fs none nor = nor
   of_both c (e ∷ es) fs none nor = grind (arith, none, nor, of_both c es fs)
 
-  pub fronts_keep_order : (later earlier : List (Action TowerName)) → OrderGoesOn caps later earlier
-  fronts_keep_order [] earlier = record { more = []; is = sym (append-nil (reverse (effects_of caps earlier))); own = λ c others. refl }
-  fronts_keep_order (a ∷ later) earlier =
-      let before = fronts_keep_order later earlier in
+  pub prefixes_keep_order : (later earlier : List (Action TowerName)) → OrderGoesOn caps later earlier
+  prefixes_keep_order [] earlier = record { more = []; is = sym (append-nil (reverse (effects_of caps earlier))); local = λ c others. refl }
+  prefixes_keep_order (a ∷ later) earlier =
+      let before = prefixes_keep_order later earlier in
       let one = act_adds a (later ++ earlier) in
       record {
         more = before.more ++ option_to_list one.effect;
         is = ap (λ (es : List Entry). reverse es) one.is ∙ behind one.effect (effects_of caps (later ++ earlier))
             ∙ ap (λ (es : List Entry). es ++ option_to_list one.effect) before.is
             ∙ append_assoc (reverse (effects_of caps earlier)) before.more (option_to_list one.effect);
-        own = λ c others. of_both c before.more (option_to_list one.effect) (before.own c others.1)
+        local = λ c others. of_both c before.more (option_to_list one.effect) (before.local c others.1)
             (ap (of_cpu c) (sym (append-nil (option_to_list one.effect)))
             ∙ of_others c one.effect [] (λ e at. subst (λ (d : CpuId). same_cpu d c ≡ false) (sym (one.its e at)) others.0));
       }
@@ -149,13 +149,13 @@ pub record HasOrder (caps : List ℕ) (traces : List (List Entry)) (effects : Li
   pub order : List Entry
   pub is : order ≡ reverse effects
   pub keeps : IsInterleaving traces order
-  pub run : IsRun caps order contents
+  pub run : IsLegalHistory caps order contents
 
-pub one_order : (caps : List ℕ) (log : List (Action TowerName)) (traces : List (List Entry)) (limit : ℕ)
+pub linearization : (caps : List ℕ) (log : List (Action TowerName)) (traces : List (List Entry)) (limit : ℕ)
     → IsLawful (MayTakeEffect caps) (effects_of caps log) → ((c : CpuId) → length traces ≤ c.0 → own_events cpu_of_action c log ≡ [])
     → ((k : ℕ) → k < length traces → IsTraceOf (cpu_at k) caps log (slice_index_or traces k [])) → All (λ t. length t ≤ limit) traces
     → length traces * limit < 2 ^ 64 → HasOrder caps traces (effects_of caps log) (contents_of caps (effects_of caps log))
-one_order caps log traces limit lawful rest each room small =
+linearization caps log traces limit lawful rest each room small =
     let es = effects_of caps log in
     let keeps = order_interleaves (reverse es) traces (λ k within. each k within ∙ sym (filter_reversed (λ (e : Entry). e.cpu.0 == k) es))
     (all_reversed (λ (e : Entry). e.cpu.0 < length traces) es (effects_known caps (length traces) log (all_within cpu_of_action (length traces) log rest))) in

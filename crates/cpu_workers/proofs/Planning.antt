@@ -7,9 +7,9 @@ use Rattle.layer_traits.specs.declared.{calls.{Call.Call, Effect.Effect}, steps.
 use Rattle.layer_traits.specs.{Polling.Along.{Outcome, IsStep}, Layers.BufferLaw.{begun_of, call_state_of}, Threads.Places.Threads}
 use Rattle.cpu.specs.{declared.guests.{Guest.Guest, GuestStage.{GuestStage, TheVariants.{Idle, Begun, Done, Ended}}}, Guests.{HasComeIn, state_after_effect}}
 use Rattle.cpu.specs.{Guests.is_ended, Cpus.{IsOfHome, begins_call, begun_count, chosen, guest_at, cpu_halted_at, is_over, of_cpu, of_thread, programs_of}}
-use Rattle.cpu.{specs.{Table.Setups.{Setup, Thread, thread_at}, Tables.{IsSetupOf, private}, Tower.Views.TowerName}, proofs.ListFacts.ListReads.all_reversed}
-use Rattle.cpu.proofs.{ListFacts.GuestLists.guest_with, WholeSystems.OneOrder.filter_reversed, CpuSteps.CpuStates.TabledCpu, StepTable.TableRows.guest_there}
-use Rattle.cpu_workers.specs.{Orders.{FollowsProgram, HasFollowed}, Working.IsPlanned}
+use Rattle.cpu.specs.{Table.Setups.{SystemConfig, Thread, thread_at}, Tables.{IsSetupOf, cpu_local}, Tower.Views.TowerName}
+use Rattle.cpu.proofs.{ListFacts.{ListReads.all_reversed, GuestLists.guest_with}, WholeSystems.OneOrder.filter_reversed, CpuSteps.CpuStates.TabledCpu}
+use Rattle.{cpu.proofs.StepTable.TableRows.guest_there, cpu_workers.specs.{Orders.{FollowsProgram, HasFollowed}, Working.IsPlanned}}
 
 program_there : (guests : List (Option Guest)) (t : ℕ) (g : Guest) → guest_at guests t ≡ Some g → slice_index_or (programs_of guests) t None ≡ Some g.program
 program_there [] t g at = absurd (cc at)
@@ -17,7 +17,7 @@ program_there (o ∷ guests) zero g at = ap (λ x. option_map (λ (y : Guest). y
 program_there (o ∷ guests) (suc t) g at = program_there guests t g at
 
 -- the step table of a plan is that of the CPU whose plan it is
-pub table_planned : (setup : Setup) (homes : List CpuId) (caps : List ℕ) (guests : List (Option Guest)) (limit : ℕ)
+pub table_planned : (setup : SystemConfig) (homes : List CpuId) (caps : List ℕ) (guests : List (Option Guest)) (limit : ℕ)
     → IsPlanned setup (record { homes = homes; caps = caps; programs = programs_of guests; limit = limit }) → IsSetupOf setup homes caps guests limit
 table_planned setup homes caps guests limit of = record {
   homes_are = of.homes_are;
@@ -27,9 +27,9 @@ table_planned setup homes caps guests limit of = record {
 }
 
 -- a CPU has no reason of a system's
-pub own_reason : (own : Threads) (guests : List (Option Guest)) (trace : List Entry) (limit : ℕ) → cpu_halted_at own guests trace limit ≢ Some StepsUsed
-own_reason own guests trace limit is =
-    go (not (is_some own.hand) && list_all is_over guests) (begins_call (chosen own guests) guests && (length trace + begun_count guests == limit)) is
+pub own_reason : (local : Threads) (guests : List (Option Guest)) (trace : List Entry) (limit : ℕ) → cpu_halted_at local guests trace limit ≢ Some StepsUsed
+own_reason local guests trace limit is =
+    go (not (is_some local.hand) && list_all is_over guests) (begins_call (chosen local guests) guests && (length trace + begun_count guests == limit)) is
   where
     go : (a b : Bool) → (if a then Some AllEnded else (if b then Some TraceFull else None)) ≡ Some StepsUsed → ⊥
     go true b same = absurd (cc same)
@@ -70,27 +70,27 @@ follows_by g es begun effect over ends come = go g.stage refl come
 
 -- the threads of a worker have followed their programs
 module _ (told : TabledCpu) where
-  open told use {homes, caps, seen, own as part, number, guests, trace, limit, is}
+  open told use {homes, caps, history, local as part, number, guests, trace, limit, is}
 
-  entries : (t : Tid) → of_thread t.0 trace ≡ reverse (of_thread t.0 (of_cpu number seen))
-  entries t = ap (λ (l : List Entry). of_thread t.0 l) is.kept ∙ filter_reversed (λ (e : Entry). e.thread.0 == t.0) (of_cpu number seen)
+  entries : (t : Tid) → of_thread t.0 trace ≡ reverse (of_thread t.0 (of_cpu number history))
+  entries t = ap (λ (l : List Entry). of_thread t.0 l) is.kept ∙ filter_reversed (λ (e : Entry). e.thread.0 == t.0) (of_cpu number history)
 
-  pub has_followed : (acts : List (Action TowerName)) (site : List ℕ) → HasFollowed (record {
+  pub has_followed : (acts : List (Action TowerName)) (machine_id : List ℕ) → HasFollowed (record {
     cpu = number;
     plan = record { homes = homes; caps = caps; programs = programs_of guests; limit = limit };
-    private = private part guests trace;
+    cpu_local = cpu_local part guests trace;
     acts = acts;
-    site = site;
+    machine_id = machine_id;
   })
-  has_followed acts site = record {
+  has_followed acts machine_id = record {
     room = let room = is.room in omega (arith, room);
-    stays = rw is.kept (all_reversed (IsOfHome homes number) (of_cpu number seen) is.stays);
+    stays = rw is.kept (all_reversed (IsOfHome homes number) (of_cpu number history) is.stays);
     homed = λ t home. let there = is.homed t home in (there.0.program, program_there guests t.0 there.0 there.1);
     follows = λ t program at. let there = guest_with guests t.0 program at in
-        subst (λ (l : List Instruction). FollowsProgram l (of_thread t.0 trace) (thread_at (private part guests trace) t).ended) there.2
-        (subst (λ (l : List Entry). FollowsProgram there.0.program l (thread_at (private part guests trace) t).ended) (sym (entries t))
-        (follows_by there.0 (of_thread t.0 (of_cpu number seen)) (begun_of (call_state_of part.call_states t)) (call_state_of part.call_states t).effect
-        (thread_at (private part guests trace) t).ended
+        subst (λ (l : List Instruction). FollowsProgram l (of_thread t.0 trace) (thread_at (cpu_local part guests trace) t).ended) there.2
+        (subst (λ (l : List Entry). FollowsProgram there.0.program l (thread_at (cpu_local part guests trace) t).ended) (sym (entries t))
+        (follows_by there.0 (of_thread t.0 (of_cpu number history)) (begun_of (call_state_of part.call_states t)) (call_state_of part.call_states t).effect
+        (thread_at (cpu_local part guests trace) t).ended
         (λ over. is.over t (sym (ap (λ (x : Thread). x.ended) (guest_there part guests trace t there.0 there.1)) ∙ over) there.0 there.1)
         (is.follow t there.0 there.1).1));
   }

@@ -3,8 +3,8 @@
 use Rattle.std.proofs.Common.{◌≡◌, ℕ, zero, suc, ◌+◌, ◌-◌, ◌<◌, ◌≤◌, ◌==◌, Bool, true, false, List, [], ◌∷◌, ◌++◌, length, take, reverse, Option, Some, None}
 use Rattle.std.{proofs.{Common.{if◌then◌else◌, refl, ap, sym, ◌∙◌, subst, arith, inl, inr}, lemmas.Bool.{cases_lt, eq-eqb}}, specs.Prelude.{filter, slice_get}}
 use Rattle.{event_log.specs.{declared.{entries.Entry.Entry, ids.{CpuId.CpuId, Tid.Tid}}, Actions.Action}, cpu.specs.Cpus.{of_cpu, of_thread}}
-use Rattle.cpu.{specs.{Table.Setups.{Call, Private, Setup, has_none, thread_at}, Tower.Views.TowerName}, proofs.WholeSystems.OneOrder.filter_reversed}
-use Rattle.cpu_workers.specs.{Fronts.{AreLinearizable, IsFront}, Orders.effects_of, RealTime.{ReturnedComeFirst, StandsAt, calls_begun, begun_with}}
+use Rattle.cpu.{specs.{Table.Setups.{Call, CpuLocal, SystemConfig, has_none, thread_at}, Tower.Views.TowerName}, proofs.WholeSystems.OneOrder.filter_reversed}
+use Rattle.cpu_workers.specs.{Prefixes.{AreLinearizable, IsActionPrefix}, Orders.effects_of, RealTime.{ReturnedComeFirst, StandsAt, calls_begun, begun_with}}
 use Rattle.cpu_workers.specs.RealTime.{thread_entries, calls_returned, returned_with}
 
 -- one entry more in front
@@ -96,8 +96,8 @@ begun_many (Some call) n = by_effect (has_none call.effect)
     by_effect false = omega arith
 
 -- At a front the order of all calls begins with the order so far.
-module _ (setup : Setup) (acts later earlier : List (Action TowerName)) (linear : AreLinearizable setup acts) (is : acts ≡ later ++ earlier) where
-  abbrev front : IsFront setup later earlier
+module _ (setup : SystemConfig) (acts later earlier : List (Action TowerName)) (linear : AreLinearizable setup acts) (is : acts ≡ later ++ earlier) where
+  abbrev front : IsActionPrefix setup later earlier
   front = linear later earlier is
 
   abbrev pre : List Entry

@@ -2,9 +2,9 @@
 use Rattle.std.{proofs.Common.{◌≡◌, ℕ, ◌+◌, ◌<◌, false, List, ◌++◌, length, refl, ap, sym, ◌∙◌, subst, arith}, specs.Prelude.Option}
 use Rattle.cpu_workers.proofs.{TableOrder.{goes_on, traces_ordered, other_cpus_rest, Goes}, Turning.{took_of, within_others}, ClosedLog.acts_legal}
 use Rattle.cpu_workers.proofs.{ClosedLog.{buffers_left, queues_left, buffer_opens, sections_proper, opening_starts}, Lasting.all_ended, OneOrder.HasOrder}
-use Rattle.cpu_workers.{proofs.{OneOrder.trace_in, Fronts.{effects_so, is_front, proper_before}, TableTraces.total}, specs.declared.workers.gates.Go.Go}
+use Rattle.cpu_workers.{proofs.{OneOrder.trace_in, Prefixes.{effects_so, is_front, proper_before}, TableTraces.total}, specs.declared.workers.gates.Go.Go}
 use Rattle.cpu_workers.specs.{declared.workers.{gates.Go.TheVariants.Limit, stops.Stop.Stop}, Lawful.{AreLeft, HasGone, IsLawfulReport, IsCpuReportOf}}
-use Rattle.cpu_workers.specs.{Lawful.{IsReport, CpuReport, ShownReport, ReportsTrue, left_in, held_at}, Logs.IsReportOfWords, Orders.FollowsProgram}
+use Rattle.cpu_workers.specs.{Lawful.{IsReport, CpuReport, ReportView, ReportsTrue, left_in, held_at}, Logs.IsReportOfWords, Orders.FollowsProgram}
 use Rattle.cpu_workers.specs.{Orders.{effects_of, IsTraceOf}, Working.Charge, Closing.{HasSeen, IsReported, Key, LockBlock, ReportsAreLawful, acts_in}}
 use Rattle.cpu_workers.specs.{Closing.seen_above, Reports.{IsTrueStop, TookWithin, WentBy}, Seating.{HasLeft, IsApart}}
 use Rattle.event_log.specs.{declared.{entries.Entry.Entry, ids.{CpuId.CpuId, LockId.{LockId, TheVariants.{Pending, Buffer as AtBuffer}}}}, Actions.Action}
@@ -12,22 +12,22 @@ use Rattle.event_log.{specs.{Actions.{cpu_of_action, phase, renamed}, History.Ar
 use Rattle.event_log.proofs.{Streams.taken_put, Renaming.{legal_renamed, others_renamed}, Same.same_cpu_self}
 use Rattle.layer_traits.specs.{declared.queue_edits.QueueBlock.QueueBlock, Polling.Plans.is_in_section, Protocols.OneLock.opened, Blocks.QueueRules.AreProper}
 use Rattle.{layer_traits.proofs.PlanRenaming.map-append, table_machine.specs.SeatViews.TableView, cpu.specs.{Claims.{buffer_at, listed}, Cpus.of_cpu}}
-use Rattle.cpu.specs.{Table.{Blocks.Name, Setups.{Setup, boot_of}, Steps.{cpu_step, halted_at}}, Tower.{Composed.named, Views.{TowerName, name_of, TowerBlock}}}
-use Rattle.cpu.{specs.{Wakeups.Lost.IsWorked, Sound.setup_for}, proofs.{StepTable.TableQuiet.ended_at, Wakeups.CpusByTable.cpus_lose_no_wake_up}}
-use Rattle.boot.specs.Plan.{BootPlan}
+use Rattle.cpu.specs.{Table.{Blocks.Name, Setups.{SystemConfig, boot_of}, Steps.{cpu_step, halted_at}}, Tower.{Composed.named, Views.{TowerName, name_of}}}
+use Rattle.cpu.{specs.{Tower.Views.TowerBlock, Wakeups.Lost.IsWorked, Sound.setup_for}, proofs.StepTable.TableQuiet.ended_at}
+use Rattle.{cpu.proofs.Wakeups.CpusByTable.cpus_lose_no_wake_up, boot.specs.Plan.BootPlan}
 use Rattle.layer_traits.specs.declared.steps.Reason.TheVariants as reason
 
 -- What a worker of a plan left is what its CPU did along what it has seen.
-module _ {plan : BootPlan} {May : CpuId → Go → ℕ → Type 0} {turns : ℕ} {c : CpuId} {acts : List (Action TowerName)} {site : List ℕ} (line : CpuReport)
-    (left : HasLeft plan May turns c acts site line.trace line.taken line.stop) where
-  abbrev setup : Setup
+module _ {plan : BootPlan} {May : CpuId → Go → ℕ → Type 0} {turns : ℕ} {c : CpuId} {acts : List (Action TowerName)} {machine_id : List ℕ} (line : CpuReport)
+    (left : HasLeft plan May turns c acts machine_id line.trace line.taken line.stop) where
+  abbrev setup : SystemConfig
   setup = setup_for plan
 
   same : left.last.cpu ≡ c
   same = left.ran.same.cpu ∙ left.at_boot.cpu_is
 
   -- how it went, from boot on
-  went : WentBy setup (May c) turns (record left.first { cpu = c; private = boot_of setup c }) left.last line.taken line.stop
+  went : WentBy setup (May c) turns (record left.first { cpu = c; cpu_local = boot_of setup c }) left.last line.taken line.stop
   went = rw (← left.at_boot.boots) (rw (← left.at_boot.cpu_is) (left.ran.went setup left.at_boot.planned))
 
   -- its state, with its charge by the plan
@@ -42,12 +42,12 @@ module _ {plan : BootPlan} {May : CpuId → Go → ℕ → Type 0} {turns : ℕ}
     limit = sym left.at_boot.planned.room_is i;
   })
 
-  apart : IsApart (record left.last { cpu = c; plan = charge }) acts site line.trace
+  apart : IsApart (record left.last { cpu = c; plan = charge }) acts machine_id line.trace
   apart = rw (← same) (rw (← charged) left.apart)
 
-  seen : HasSeen setup (May c) turns c left.last.acts (record line { trace = left.last.private.trace })
-  seen = record {
-    last = left.last.private;
+  history : HasSeen setup (May c) turns c left.last.acts (record line { trace = left.last.cpu_local.trace })
+  history = record {
+    last = left.last.cpu_local;
     took = went.took;
     within = went.within;
     held = went.held;
@@ -56,7 +56,7 @@ module _ {plan : BootPlan} {May : CpuId → Go → ℕ → Type 0} {turns : ℕ}
     rests = subst (λ (d : CpuId). is_in_section (phase d (named left.last.acts)) ≡ false) same left.ran.rests;
     stop_is = went.stop_is;
     trace_is = refl;
-    own = apart.own;
+    local = apart.local;
     legal = apart.legal;
     room = apart.follows.room;
     stays = apart.follows.stays;
@@ -66,12 +66,12 @@ module _ {plan : BootPlan} {May : CpuId → Go → ℕ → Type 0} {turns : ℕ}
 
   pub has_seen : HasSeen (setup_for plan) (May c) turns c acts line
   has_seen =
-      rw left.apart.acts_are (rw left.apart.trace_is seen)
+      rw left.apart.acts_are (rw left.apart.trace_is history)
 
 -- The report.
 
-module _ (setup : Setup) (May : CpuId → Go → ℕ → Type 0) (turns : ℕ) (table_view : TableView (QueueBlock LockBlock)) (keys : List Key)
-    (blocks : List (LockId × QueueBlock LockBlock)) (r : ShownReport) (it : IsReported setup May turns table_view keys blocks r) where
+module _ (setup : SystemConfig) (May : CpuId → Go → ℕ → Type 0) (turns : ℕ) (table_view : TableView (QueueBlock LockBlock)) (keys : List Key)
+    (blocks : List (LockId × QueueBlock LockBlock)) (r : ReportView) (it : IsReported setup May turns table_view keys blocks r) where
   open it use {starts as so, come, closes}
 
   abbrev acts : List (Action TowerName)
@@ -83,12 +83,12 @@ module _ (setup : Setup) (May : CpuId → Go → ℕ → Type 0) (turns : ℕ) (
 
   gone_so : (c : CpuId) (past : List (Action TowerName)) (line : CpuReport) → Goes acts past c → HasSeen setup (May c) turns c past line
       → HasGone setup (May c) turns c (named acts) line
-  gone_so c past line goes seen = record {
-    last = seen.last;
-    trace_is = seen.trace_is;
-    took = took_of (on seen.within);
-    within = on seen.within;
-    held = λ is. let held = seen.held is in record {
+  gone_so c past line goes history = record {
+    last = history.last;
+    trace_is = history.trace_is;
+    took = took_of (on history.within);
+    within = on history.within;
+    held = λ is. let held = history.held is in record {
       turn = held.turn;
       before = held.before;
       may = held.may;
@@ -96,10 +96,10 @@ module _ (setup : Setup) (May : CpuId → Go → ℕ → Type 0) (turns : ℕ) (
       counted = held.counted;
       within = on held.within;
     };
-    asked = seen.asked;
-    used = seen.used;
-    rests = ap (λ l. is_in_section (phase c l)) log_is ∙ ap is_in_section (phase_others c (named goes.more) (named past) theirs) ∙ seen.rests;
-    stop_is = seen.stop_is;
+    asked = history.asked;
+    used = history.used;
+    rests = ap (λ l. is_in_section (phase c l)) log_is ∙ ap is_in_section (phase_others c (named goes.more) (named past) theirs) ∙ history.rests;
+    stop_is = history.stop_is;
   }
     where
       log_is : named acts ≡ named goes.more ++ named past
@@ -108,8 +108,8 @@ module _ (setup : Setup) (May : CpuId → Go → ℕ → Type 0) (turns : ℕ) (
       theirs : AreOthers cpu_of_action c (named goes.more)
       theirs = renamed_others c goes.more goes.others
 
-      on : {Goes : ℕ → Type 0} → TookWithin (cpu_step setup c) c Goes (boot_of setup c) seen.last (named past) line.taken
-          → TookWithin (cpu_step setup c) c Goes (boot_of setup c) seen.last (named acts) line.taken
+      on : {Goes : ℕ → Type 0} → TookWithin (cpu_step setup c) c Goes (boot_of setup c) history.last (named past) line.taken
+          → TookWithin (cpu_step setup c) c Goes (boot_of setup c) history.last (named acts) line.taken
       on {Goes} took = record {
         count = took.count;
         steps = rw log_is (within_others (named goes.more) theirs took.steps);
@@ -119,7 +119,7 @@ module _ (setup : Setup) (May : CpuId → Go → ℕ → Type 0) (turns : ℕ) (
   gone : (c : CpuId) → c.0 < setup.cpus → (line : CpuReport) × IsCpuReportOf r c line × HasGone setup (May c) turns c (named acts) line
   gone c within =
       let one = come.each c within in
-      (one.1, one.4, gone_so c (acts_in one.0.seen) one.1 (goes_on setup table_view so keys blocks closes c one.0 one.2 one.3) one.5)
+      (one.1, one.4, gone_so c (acts_in one.0.history) one.1 (goes_on setup table_view so keys blocks closes c one.0 one.2 one.3) one.5)
 
   left : AreLeft setup (named acts) r
   left = record {
@@ -139,20 +139,20 @@ module _ (setup : Setup) (May : CpuId → Go → ℕ → Type 0) (turns : ℕ) (
 
   told : (c : CpuId) (acts_seen : List (Action TowerName)) (line : CpuReport) → HasSeen setup (May c) turns c acts_seen line
       → ReportsTrue setup (May c) turns c line
-  told c acts_seen line seen = record {
-    room = seen.room;
-    stays = seen.stays;
-    calls = λ t home. let follows = seen.follows t home in (follows.state, follows.calls);
-    ended = λ is t home. let follows = seen.follows t home in
+  told c acts_seen line history = record {
+    room = history.room;
+    stays = history.stays;
+    calls = λ t home. let follows = history.follows t home in (follows.state, follows.calls);
+    ended = λ is t home. let follows = history.follows t home in
         let zero_plus : 0 + t.0 ≡ t.0 = omega arith in
         record {
           state = follows.state;
           calls = follows.calls;
-          ends = follows.ends (rw zero_plus at (ended_at seen.last c setup.homes 0 t.0 c home (same_cpu_self c)
-              (all_ended setup c seen.last (rw is at seen.stop_is))));
+          ends = follows.ends (rw zero_plus at (ended_at history.last c setup.homes 0 t.0 c home (same_cpu_self c)
+              (all_ended setup c history.last (rw is at history.stop_is))));
         };
-    used = λ is. (subst (λ (s : Stop). IsTrueStop (halted_at setup c seen.last) (May c Limit) turns line.taken s) is seen.stop_is).1;
-    held = λ is. (subst (λ (s : Stop). IsTrueStop (halted_at setup c seen.last) (May c Limit) turns line.taken s) is seen.stop_is).1;
+    used = λ is. (subst (λ (s : Stop). IsTrueStop (halted_at setup c history.last) (May c Limit) turns line.taken s) is history.stop_is).1;
+    held = λ is. (subst (λ (s : Stop). IsTrueStop (halted_at setup c history.last) (May c Limit) turns line.taken s) is history.stop_is).1;
   }
 
   -- The order.
@@ -167,7 +167,7 @@ module _ (setup : Setup) (May : CpuId → Go → ℕ → Type 0) (turns : ℕ) (
         key_at = one.2;
         cpu_is = one.3;
         trace_at = one.4.trace;
-        own = one.5.own;
+        local = one.5.local;
         room = one.5.room;
       }))
 
@@ -180,7 +180,7 @@ module _ (setup : Setup) (May : CpuId → Go → ℕ → Type 0) (turns : ℕ) (
     keeps = in_order.keeps;
     run = in_order.run;
     fifo = taken_put setup.caps in_order.order (left_in (length setup.caps) r) in_order.run;
-    each = λ c within. let one = come.each c within in (one.1, one.4, told c (acts_in one.0.seen) one.1 one.5);
+    each = λ c within. let one = come.each c within in (one.1, one.4, told c (acts_in one.0.history) one.1 one.5);
   }
 
   -- the report is lawful
@@ -205,7 +205,7 @@ module _ (setup : Setup) (May : CpuId → Go → ℕ → Type 0) (turns : ℕ) (
   ends c within =
       let one = come.each c within in
       let goes = goes_on setup table_view so keys blocks closes c one.0 one.2 one.3 in
-      sym one.5.trace_is ∙ trace_in setup.caps c goes.more (acts_in one.0.seen) acts one.1.trace goes.is goes.others one.5.own
+      sym one.5.trace_is ∙ trace_in setup.caps c goes.more (acts_in one.0.history) acts one.1.trace goes.is goes.others one.5.local
 
   many : (c : CpuId) (later earlier : List (Action TowerName)) → acts ≡ later ++ earlier
       → length (of_cpu c (effects_of setup.caps earlier)) ≡ total setup c (named earlier)

@@ -17,7 +17,7 @@ use Rattle.cpu.proofs.ListFacts.ListReads.{shows_at, there_is}
 pub ready_at : (Opens : (LockId → Option AnyBlock) → Type 0) (table_view : TableView AnyBlock) (n : ℕ) (IsOutside : Key → Type 0)
     (acts : Key → List (Action Edit)) {seats : List Key} → seats ≡ new_seat_views table_view n → (k : ℕ) (key : Key) → slice_get seats k ≡ Some key
     → IsOutside (new_seat_view table_view k) → acts (new_seat_view table_view k) ≡ [] → Opens (opened table_view.start)
-    → IsReadySeat ((cpu_at k ≡ key.cpu) × IsLawful (MayCome (tower_rules.allowed (opened key.start))) key.seen) (IsOutside key) (sections_in (acts key) ≡ [])
+    → IsReadySeat ((cpu_at k ≡ key.cpu) × IsLawful (MayCome (tower_rules.allowed (opened key.start))) key.history) (IsOutside key) (sections_in (acts key) ≡ [])
     (acts key ≡ []) (Opens (opened key.start))
 ready_at Opens table_view n IsOutside acts new k key at outside none opens =
     rw (seat_views_at table_view n k key (subst (λ (l : List Key). slice_get l k ≡ Some key) new at))
@@ -29,16 +29,16 @@ pub rests_so : (f : Phase) → is_in_section f ≡ false → f ≡ Rests
 rests_so f none = grind arith
 
 -- a CPU whose sections are over, according to the tower, is outside all locks
-pub outside_now : (c : CpuId) (key : Key) → is_in_section (phase c (tower_acts (acts_of edit_of key.seen))) ≡ false → lock_phase c key.seen ≡ Idle
+pub outside_now : (c : CpuId) (key : Key) → is_in_section (phase c (tower_acts (acts_of edit_of key.history))) ≡ false → lock_phase c key.history ≡ Idle
 outside_now c key over =
-    let acts = acts_of edit_of key.seen in
+    let acts = acts_of edit_of key.history in
     let once = map (renamed (renamed_edit slept_edit)) acts in
-    (rests_outside key.seen c).1 (rests_so (phase c acts)
+    (rests_outside key.history c).1 (rests_so (phase c acts)
     (ap is_in_section (sym (phase_renamed (renamed_edit lock_call) c once ∙ phase_renamed (renamed_edit slept_edit) c acts)) ∙ over))
 
 -- so is a worker that has stopped
-stopped : {plan : BootPlan} {May : CpuId → Go → ℕ → Type 0} {turns : ℕ} {c : CpuId} {acts : List (Action TowerName)} {site : List ℕ} {trace : List Entry}
-    {taken : ℕ} {stop : Stop} → HasLeft plan May turns c acts site trace taken stop → is_in_section (phase c acts) ≡ false
+stopped : {plan : BootPlan} {May : CpuId → Go → ℕ → Type 0} {turns : ℕ} {c : CpuId} {acts : List (Action TowerName)} {machine_id : List ℕ} {trace : List Entry}
+    {taken : ℕ} {stop : Stop} → HasLeft plan May turns c acts machine_id trace taken stop → is_in_section (phase c acts) ≡ false
 stopped {c = c} {acts = acts} left =
     ap is_in_section (sym (phase_renamed name_of c acts)) ∙ ap (λ (l : List (Action TowerName)). is_in_section (phase c (named l))) left.apart.acts_are
     ∙ ap (λ (d : CpuId). is_in_section (phase d (named left.last.acts))) (sym (left.ran.same.cpu ∙ left.at_boot.cpu_is)) ∙ left.ran.rests
@@ -46,7 +46,7 @@ stopped {c = c} {acts = acts} left =
 -- what a seat has seen is lawful, and therefore its actions are those of the words log, whatever
 -- words it represents
 abbrev pub SameActs : (Key → List (Action Edit)) → Type 0
-SameActs acts = (key : Key) → IsLawful (MayCome (tower_rules.allowed (opened key.start))) key.seen → acts key ≡ acts_of edit_of key.seen
+SameActs acts = (key : Key) → IsLawful (MayCome (tower_rules.allowed (opened key.start))) key.history → acts key ≡ acts_of edit_of key.history
 
 module _ {X : Type 0} (table_view : TableView AnyBlock) (left : List X) (machine : X → Key) (acts : Key → List (Action Edit)) (same : SameActs acts) where
   -- what was left at this seat of a new table: its key is the CPU's, and it is over if the CPU's
@@ -54,24 +54,24 @@ module _ {X : Type 0} (table_view : TableView AnyBlock) (left : List X) (machine
   pub left_at : (n : ℕ) (seats : List Key) → seats ≡ new_seat_views table_view n → length left ≡ length seats
       → ((k : ℕ) (x : X) (m : Key) → slice_get left k ≡ Some x → slice_get seats k ≡ Some m → site_of (machine x).table ≡ site_of m.table)
       → ((k : ℕ) (x : X) → slice_get left k ≡ Some x
-      → (cpu_at k ≡ (machine x).cpu) × IsLawful (MayCome (tower_rules.allowed (opened (machine x).start))) (machine x).seen)
+      → (cpu_at k ≡ (machine x).cpu) × IsLawful (MayCome (tower_rules.allowed (opened (machine x).start))) (machine x).history)
       → (k : ℕ) → k < n → (x : X) × (slice_get left k ≡ Some x) × ((machine x).cpu ≡ cpu_at k)
-      × (acts (machine x) ≡ acts_of edit_of (machine x).seen)
-      × (is_in_section (phase (cpu_at k) (tower_acts (acts_of edit_of (machine x).seen))) ≡ false → IsOver table_view (machine x))
-  left_at n seats new count site owns k below =
+      × (acts (machine x) ≡ acts_of edit_of (machine x).history)
+      × (is_in_section (phase (cpu_at k) (tower_acts (acts_of edit_of (machine x).history))) ≡ false → IsOver table_view (machine x))
+  left_at n seats new count machine_id owns k below =
       let there = there_is left k (subst (λ m. k < m) (sym (count ∙ as_many table_view n new)) below) in
       let x = there.0 in
       let seat = there_is seats k (subst (λ m. k < m) (sym (as_many table_view n new)) below) in
       let is : seat.0 ≡ new_seat_view table_view k = seat_views_at table_view n k seat.0 (subst (λ (l : List Key). slice_get l k ≡ Some seat.0) new seat.1) in
-      let own = owns k x there.1 in
-      let cpu : (machine x).cpu ≡ cpu_at k = sym own.0 in (
+      let local = owns k x there.1 in
+      let cpu : (machine x).cpu ≡ cpu_at k = sym local.0 in (
         x,
         there.1,
         cpu,
-        same (machine x) own.1,
+        same (machine x) local.1,
         λ over. record {
-          table = one_site (machine x).table table_view.table (site k x seat.0 there.1 seat.1 ∙ ap (λ (d : Key). site_of d.table) is);
-          outside = subst (λ (d : CpuId). lock_phase d (machine x).seen ≡ Idle) (sym cpu) (outside_now (cpu_at k) (machine x) over);
+          table = one_site (machine x).table table_view.table (machine_id k x seat.0 there.1 seat.1 ∙ ap (λ (d : Key). site_of d.table) is);
+          outside = subst (λ (d : CpuId). lock_phase d (machine x).history ≡ Idle) (sym cpu) (outside_now (cpu_at k) (machine x) over);
         },
       )
 
@@ -82,12 +82,12 @@ module _ (plan : BootPlan) (May : CpuId → Go → ℕ → Type 0) (turns : ℕ)
   pub have_left : (seats : List Key) → seats ≡ new_seat_views table_view plan.cpus → length left ≡ length seats
       → ((k : ℕ) (x : Left Key) (m : Key) → slice_get left k ≡ Some x → slice_get seats k ≡ Some m → site_of x.machine.table ≡ site_of m.table)
       → ((k : ℕ) (x : Left Key) → slice_get left k ≡ Some x
-      → (cpu_at k ≡ x.machine.cpu) × IsLawful (MayCome (tower_rules.allowed (opened x.machine.start))) x.machine.seen)
+      → (cpu_at k ≡ x.machine.cpu) × IsLawful (MayCome (tower_rules.allowed (opened x.machine.start))) x.machine.history)
       → ((k : ℕ) (x : Left Key) → slice_get left k ≡ Some x
       → HasLeft plan May turns (cpu_at k) (tower_acts (acts x.machine)) (site_of x.machine.table) x.trace.items x.did.taken x.did.stop)
       → HaveLeft plan May turns table_view (map (λ x. x.machine) left) (map (λ x. x.trace.items) left) (map (λ x. x.did.taken) left)
       (map (λ x. x.did.stop) left)
-  have_left seats new count site owns has =
+  have_left seats new count machine_id owns has =
       let many : length left ≡ plan.cpus = count ∙ as_many table_view plan.cpus new in
       record {
         count = length-map left _ ∙ many;
@@ -95,7 +95,7 @@ module _ (plan : BootPlan) (May : CpuId → Go → ℕ → Type 0) (turns : ℕ)
         taken_count = length-map left _ ∙ many;
         stops_count = length-map left _ ∙ many;
         each = λ c below.
-            let one = left_at table_view left (λ y. y.machine) acts same plan.cpus seats new count site owns c.0 below in
+            let one = left_at table_view left (λ y. y.machine) acts same plan.cpus seats new count machine_id owns c.0 below in
             let x = one.0 in
             let gone = subst
             (λ (l : List (Action Edit)). HasLeft plan May turns c (tower_acts l) (site_of x.machine.table) x.trace.items x.did.taken x.did.stop)

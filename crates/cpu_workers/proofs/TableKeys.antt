@@ -25,13 +25,14 @@ pub new_fresh : {E B : Type 0} (table_view : TableView B) (n : ℕ) → All (IsF
 new_fresh table_view = all_new table_view (λ d. IsFresh table_view d) (λ k. refl)
 
 -- what belongs to each of them, in a list that was made of them
-pub came_at : {E B : Type 0} (table_view : TableView B) (Fits : SeatView E B → SeatView E B → Type 0) (n : ℕ) (came : List (SeatView E B))
-    → Both Fits (new_seat_views table_view n) came → (k : ℕ) → k < n → (e : SeatView E B) × (slice_get came k ≡ Some e) × Fits (new_seat_view table_view k) e
-came_at {E = E} table_view Fits n came all k below =
-    let long : length came ≡ n = both_length Fits (new_seat_views table_view n) came all ∙ length_new E table_view n in
+pub came_at : {E B : Type 0} (table_view : TableView B) (Coupled : SeatView E B → SeatView E B → Type 0) (n : ℕ) (came : List (SeatView E B))
+    → Both Coupled (new_seat_views table_view n) came → (k : ℕ) → k < n
+    → (e : SeatView E B) × (slice_get came k ≡ Some e) × Coupled (new_seat_view table_view k) e
+came_at {E = E} table_view Coupled n came all k below =
+    let long : length came ≡ n = both_length Coupled (new_seat_views table_view n) came all ∙ length_new E table_view n in
     let there = there_is came k (subst (λ m. k < m) (sym long) below) in
-    let of = both_back Fits (new_seat_views table_view n) came all k there.0 there.1 in
-    (there.0, there.1, subst (λ (d : SeatView E _). Fits d there.0) (seat_views_at table_view n k of.0 of.1) of.2)
+    let of = both_back Coupled (new_seat_views table_view n) came all k there.0 there.1 in
+    (there.0, there.1, subst (λ (d : SeatView E _). Coupled d there.0) (seat_views_at table_view n k of.0 of.1) of.2)
 
 -- The keys that were returned from such a table are those of all CPUs, and over: therefore the
 -- table may be closed with them.

@@ -1,7 +1,7 @@
 -- From the keys returned to a closed table to the one order of their CPUs' calls.
 use Rattle.std.proofs.Common.{◌≡◌, ℕ, ◌+◌, ◌*◌, ◌^◌, ◌<◌, ◌≤◌, List, [], length, Some, slice_get, slice_index_or, ap, sym, ◌∙◌, subst, arith, ◌∷◌, ◌++◌, map}
 use Rattle.std.proofs.{Common.get_or, lemmas.{Option.{get_or_from_slice_get, slice_get-get_or}, List.{append_cancel_right, length-map, length-set, same_lists}}}
-use Rattle.cpu.{proofs.ListFacts.ListReads.{listed_length, listed_there}, specs.{Claims.{buffer_at, listed}, Table.Setups.Setup, Tower.Views.TowerName}}
+use Rattle.cpu.{proofs.ListFacts.ListReads.{listed_length, listed_there}, specs.{Claims.{buffer_at, listed}, Table.Setups.SystemConfig, Tower.Views.TowerName}}
 use Rattle.event_log.specs.{declared.{entries.Entry.Entry, ids.{CpuId.CpuId, LockId.{LockId, TheVariants.Buffer as AtBuffer}}}, Actions.{Action, cpu_of_action}}
 use Rattle.event_log.{specs.{Actions.{acts_of, renamed}, History.{AreOthers, own_events}, Messages.Message, WordsLog.cpu_of_event}, proofs.Foreign.own_none}
 use Rattle.event_log.proofs.{Foreign.{acts_of-append, others_acts, own_append}, Renaming.others_renamed}
@@ -9,7 +9,7 @@ use Rattle.layer_traits.specs.{declared.queue_edits.QueueBlock.QueueBlock, Block
 use Rattle.layer_traits.{specs.{Views.Renaming.renamed_edit, Protocols.WordsProtocol.edit_of}, proofs.PlanRenaming.map-append}
 use Rattle.{table_machine.specs.SeatViews.{TableView, ClosesTable}, cpu_workers.specs.Closing.{Key, LockBlock, StartsSo, acts_in, blocks_read, tower_rules}}
 use Rattle.cpu_workers.{specs.{Closing.WordsOfTower, Lawful.messages_in, Natives.left_among, Orders.{IsTraceOf, effects_of}}, proofs.ClosedLog.effects_may}
-use Rattle.cpu_workers.proofs.{ClosedLog.messages_left, OneOrder.{HasOrder, none_own, one_order, trace_in}}
+use Rattle.cpu_workers.proofs.{ClosedLog.messages_left, OneOrder.{HasOrder, none_own, linearization, trace_in}}
 use Rattle.sleep_wakeup.specs.Nested as sleep
 use Rattle.queuing_lock.specs.Nested as lock
 
@@ -51,13 +51,13 @@ listed_so d f n xs count each = same_lists xs (listed f 0 n) (count ∙ sym (lis
 -- The table.
 
 -- what a CPU left: its key, and its trace, which is its effects in what the key has seen
-pub record HasCome (setup : Setup) (keys : List Key) (traces : List (List Entry)) (c : CpuId) : Type 0 where
+pub record HasCome (setup : SystemConfig) (keys : List Key) (traces : List (List Entry)) (c : CpuId) : Type 0 where
   pub key : Key
   pub trace : List Entry
   pub key_at : slice_get keys c.0 ≡ Some key
   pub cpu_is : key.cpu ≡ c
   pub trace_at : slice_get traces c.0 ≡ Some trace
-  pub own : IsTraceOf c setup.caps (acts_in key.seen) trace
+  pub local : IsTraceOf c setup.caps (acts_in key.history) trace
   pub room : length trace ≤ setup.trace_room
 
 -- a list extends what a CPU has seen of it, which has all of the CPU's actions
@@ -66,20 +66,20 @@ pub record Goes (acts past : List (Action TowerName)) (c : CpuId) : Type 0 where
   pub is : acts ≡ more ++ past
   pub others : AreOthers cpu_of_action c more
 
-module _ (setup : Setup) (table_view : TableView (QueueBlock LockBlock)) (so : StartsSo setup table_view) (keys : List Key)
+module _ (setup : SystemConfig) (table_view : TableView (QueueBlock LockBlock)) (so : StartsSo setup table_view) (keys : List Key)
     (blocks : List (LockId × QueueBlock LockBlock)) (closes : ClosesTable tower_rules table_view keys blocks) where
   abbrev pub acts : List (Action TowerName)
   acts = acts_in closes.log
 
   -- a CPU's own actions are all among those that it has seen
-  pub goes_on : (c : CpuId) (key : Key) → slice_get keys c.0 ≡ Some key → key.cpu ≡ c → Goes acts (acts_in key.seen) c
+  pub goes_on : (c : CpuId) (key : Key) → slice_get keys c.0 ≡ Some key → key.cpu ≡ c → Goes acts (acts_in key.history) c
   goes_on c key at is =
       let whole = closes.keys c.0 key at in
-      let theirs : AreOthers cpu_of_event key.cpu whole.ends.more = no_more_own cpu_of_event key.cpu closes.log whole.ends.more key.seen whole.ends.is
+      let theirs : AreOthers cpu_of_event key.cpu whole.ends.more = no_more_own cpu_of_event key.cpu closes.log whole.ends.more key.history whole.ends.is
       whole.whole in
       record {
         more = acts_in whole.ends.more;
-        is = ap acts_in whole.ends.is ∙ acts_append whole.ends.more key.seen;
+        is = ap acts_in whole.ends.is ∙ acts_append whole.ends.more key.history;
         others = subst (λ (d : CpuId). AreOthers cpu_of_action d (acts_in whole.ends.more)) is (acts_others key.cpu whole.ends.more theirs);
       }
 
@@ -99,12 +99,12 @@ module _ (setup : Setup) (table_view : TableView (QueueBlock LockBlock)) (so : S
       → HasOrder setup.caps traces (effects_of setup.caps acts) (left_among (length setup.caps) blocks)
   traces_ordered traces count each =
       subst (λ (l : List (List Message)). HasOrder setup.caps traces (effects_of setup.caps acts) l) contents_are
-      (one_order setup.caps acts traces setup.trace_room (effects_may setup table_view so closes.log closes.legal)
+      (linearization setup.caps acts traces setup.trace_room (effects_may setup table_view so closes.log closes.legal)
       (λ c beyond. own_none cpu_of_action c acts (other_cpus_rest c (omega (arith, beyond, count))))
       (λ k within. let one = each (cpu_at k) (omega (arith, within, count)) in
       let goes = goes_on (cpu_at k) one.key one.key_at one.cpu_is in
       get_or_from_slice_get traces k one.trace [] one.trace_at
-      ∙ trace_in setup.caps (cpu_at k) goes.more (acts_in one.key.seen) acts one.trace goes.is goes.others one.own)
+      ∙ trace_in setup.caps (cpu_at k) goes.more (acts_in one.key.history) acts one.trace goes.is goes.others one.local)
       (λ k d within. let one = each (cpu_at k) (omega (arith, within, count)) in
       let long = ap (λ (l : List Entry). length l) (get_or_from_slice_get traces k one.trace d one.trace_at) in
       omega (arith, one.room, long))

@@ -9,7 +9,7 @@ use Rattle.layer_traits.specs.declared.{locked.Side.{Side, TheVariants.{Receiver
 use Rattle.layer_traits.specs.{declared.call_states.Stage.TheVariants.{Tries, Waits, AcquiresAgain, Signals, SignalsOwn, Releases}, Polling.Plans.at_give}
 use Rattle.{layer_traits.specs.Polling.{Plans.is_in_section, Along.{starts, others, steps}}, cpu.specs.Table.Blocks.{Block, OfBuffer, Name, TryPut}}
 use Rattle.cpu.specs.Table.{Blocks.{TryTake, Shut, side_of_group}, Steps.{AlongTable, after_reply, block_at, chosen_step, cpu_step, step_in}}
-use Rattle.cpu.specs.Table.{Edits.{answer, may_try}, Setups.{Setup, Call, Private, thread_at}, Choice.{asked, asked_at}}
+use Rattle.cpu.specs.Table.{Edits.{answer, may_try}, Setups.{SystemConfig, Call, CpuLocal, thread_at}, Choice.{asked, asked_at}}
 use Rattle.cpu.specs.Table.Choice.{asked_by, asked_in, Choice, Halts, Alone, Goes, after_at, after_by, after_call, after_in, choice, first_section, with_told}
 use Rattle.cpu.specs.{Table.Choice.{recorded_entry, recorded_try, section_due, settled, slept_if, try_due, woken}, Wakeups.Order.block_of}
 use Rattle.cpu.proofs.Wakeups.{CpusByTable.along_ok, ReachedStates.{IsFair, IsFairLog, Ok, lock_in}}
@@ -36,32 +36,32 @@ one_more old e = record { more = e ∷ []; is = refl; many = refl }
 no_block : (name : Name) → grown name None ≡ 0
 no_block name = grind arith
 
-module _ (setup : Setup) (c : CpuId) where
+module _ (setup : SystemConfig) (c : CpuId) where
   -- What leaves the trace.
 
-  slept_trace : (slept : Bool) (p : Private) → (slept_if slept p).trace ≡ p.trace
+  slept_trace : (slept : Bool) (p : CpuLocal) → (slept_if slept p).trace ≡ p.trace
   slept_trace slept p = grind arith
 
-  woken_trace : (woke : Option Tid) (p : Private) → (woken setup c woke p).trace ≡ p.trace
+  woken_trace : (woke : Option Tid) (p : CpuLocal) → (woken setup c woke p).trace ≡ p.trace
   woken_trace woke p = grind arith
 
-  settled_trace : (p : Private) → (settled setup p).trace ≡ p.trace
+  settled_trace : (p : CpuLocal) → (settled setup p).trace ≡ p.trace
   settled_trace p = grind arith
 
   -- What a section of a call returned.
 
-  try_grew : (p : Private) (t : Tid) (call : Call) (side : Side) (x : Block)
+  try_grew : (p : CpuLocal) (t : Tid) (call : Call) (side : Side) (x : Block)
       → Grew p.trace (recorded_try c p t call (answer (try_due t call side) x).told).trace (grown (try_due t call side) (Some x))
   try_grew p t call side x = grind (arith, stays, one_more)
 
-  entry_grew : (p : Private) (t : Tid) (call : Call) (asks : Group) (x : Block)
+  entry_grew : (p : CpuLocal) (t : Tid) (call : Call) (asks : Group) (x : Block)
       → Grew p.trace (recorded_entry c p t call asks (answer (first_section t asks) x).told).trace (grown (first_section t asks) (Some x))
   entry_grew p t call asks x = grind (arith, stays, one_more)
 
   signals_none : (t : Tid) (call : Call) (x : Block) → (grown (section_due t call Signals) (Some x) ≡ 0) × (grown (section_due t call SignalsOwn) (Some x) ≡ 0)
   signals_none t call x = grind arith
 
-  section_grew : (p : Private) (t : Tid) (call : Call) (stage : Stage) (x : Block)
+  section_grew : (p : CpuLocal) (t : Tid) (call : Call) (stage : Stage) (x : Block)
       → Grew p.trace (with_told c p t call stage (answer (section_due t call stage) x).told).trace (grown (section_due t call stage) (Some x))
   section_grew p t call Enters x = entry_grew p t call call.asks x
   section_grew p t call Tries x = try_grew p t call (side_of_group call.asks) x
@@ -75,7 +75,7 @@ module _ (setup : Setup) (c : CpuId) where
 
   -- What a section leaves.
 
-  call_grew : (p : Private) (t : Tid) (call : Call) (x : Block)
+  call_grew : (p : CpuLocal) (t : Tid) (call : Call) (x : Block)
       → Grew p.trace (after_call setup c p t call (answer (section_due t call call.stage) x)).trace (grown (section_due t call call.stage) (Some x))
   call_grew p t call x =
       let told = section_grew p t call call.stage x in
@@ -87,34 +87,34 @@ module _ (setup : Setup) (c : CpuId) where
         many = told.many;
       }
 
-  by_grew : (p : Private) (t : Tid) (call : Option Call) (x : Block)
+  by_grew : (p : CpuLocal) (t : Tid) (call : Option Call) (x : Block)
       → Grew p.trace (after_by setup c p t call (answer (asked_by c t call).name x)).trace (grown (asked_by c t call).name (Some x))
   by_grew p t None x = stays p.trace p.trace refl
   by_grew p t (Some call) x = call_grew p t call x
 
-  at_grew : (p : Private) (current : Option Tid) (x : Block)
+  at_grew : (p : CpuLocal) (current : Option Tid) (x : Block)
       → Grew p.trace (after_at setup c p current (answer (asked_at c p current).name x)).trace (grown (asked_at c p current).name (Some x))
   at_grew p None x = stays p.trace p.trace refl
   at_grew p (Some t) x = by_grew p t (thread_at p t).call x
 
-  in_grew : (p : Private) (hand : Option Tid) (x : Block)
+  in_grew : (p : CpuLocal) (hand : Option Tid) (x : Block)
       → Grew p.trace (after_in setup c p hand (answer (asked_in setup c p hand).name x)).trace (grown (asked_in setup c p hand).name (Some x))
   in_grew p (Some s) x = stays p.trace _ (settled_trace (record p { hand = None }))
   in_grew p None x = at_grew p p.current x
 
-  reply_grew : (p : Private) (o : Option Block)
+  reply_grew : (p : CpuLocal) (o : Option Block)
       → Grew p.trace (after_reply setup c p (option_map (answer (asked setup c p).name) o)).trace (grown (asked setup c p).name o)
   reply_grew p None = subst (λ n. Grew p.trace p.trace n) (sym (no_block (asked setup c p).name)) (stays p.trace p.trace refl)
   reply_grew p (Some x) = in_grew p p.hand x
 
   -- What is chosen.
 
-  abbrev KeepsTrace : Private → Choice → Type 0
+  abbrev KeepsTrace : CpuLocal → Choice → Type 0
   KeepsTrace p (Halts reason) = Unit {0}
   KeepsTrace p (Alone q) = q.trace ≡ p.trace
   KeepsTrace p (Goes q) = q.trace ≡ p.trace
 
-  choice_keeps : (p : Private) → KeepsTrace p (choice setup c p)
+  choice_keeps : (p : CpuLocal) → KeepsTrace p (choice setup c p)
   choice_keeps p = grind arith
 
   -- One step.
@@ -126,7 +126,7 @@ module _ (setup : Setup) (c : CpuId) where
   made (Try cpu lock hit ∷ acts) log = 0
   made (Give cpu lock name ∷ acts) log = grown name (block_at setup lock log)
 
-  acting_grew : (q : Private) (log : List (Action Name)) → ((lock : LockId) → lock_in (phase c log) ≡ Some lock → lock ≡ (asked setup c q).lock)
+  acting_grew : (q : CpuLocal) (log : List (Action Name)) → ((lock : LockId) → lock_in (phase c log) ≡ Some lock → lock ≡ (asked setup c q).lock)
       → (now : Phase) → phase c log ≡ now
       → Grew q.trace (after_reply setup c q (at_give now (option_map (answer (asked setup c q).name) (block_of setup (asked setup c q).lock
       (sections_in log))))).trace (made (action_in c (asked setup c q).lock (asked setup c q).name log now ∷ []) log)
@@ -139,7 +139,7 @@ module _ (setup : Setup) (c : CpuId) where
   nowhere Rests lock off at = absurd (cc at)
   nowhere other lock off at = absurd (cc off)
 
-  pub step_grew : (p : Private) (log : List (Action Name)) → Ok setup c p log
+  pub step_grew : (p : CpuLocal) (log : List (Action Name)) → Ok setup c p log
       → Grew p.trace (cpu_step setup c p log).next.trace (made (cpu_step setup c p log).acts log)
   step_grew p log ok = by_section (is_in_section (phase c log)) refl
     where
@@ -167,7 +167,7 @@ module _ (setup : Setup) (c : CpuId) where
   abbrev IsShort : List (Action Name) → Type 0
   IsShort acts = (acts ≡ []) ⊎ ((a : Action Name) × (acts ≡ a ∷ []) × (same_cpu (cpu_of_action a) c ≡ true))
 
-  short : (p : Private) (log : List (Action Name)) → IsShort (cpu_step setup c p log).acts
+  short : (p : CpuLocal) (log : List (Action Name)) → IsShort (cpu_step setup c p log).acts
   short p log = grind (arith, same_cpu_self c)
 
   total_acts : (acts log : List (Action Name)) → IsShort acts → total (acts ++ log) ≡ made acts log + total log
@@ -175,17 +175,17 @@ module _ (setup : Setup) (c : CpuId) where
 
   -- the state of a CPU at the prefix of the list that it reached: its trace has one entry for each
   -- effect, and extends from there
-  pub record FrontOf (p : Private) (front : List (Action Name)) : Type 0 where
+  pub record FrontOf (p : CpuLocal) (front : List (Action Name)) : Type 0 where
     pub count : ℕ
-    pub last : Private
+    pub last : CpuLocal
     pub along : AlongTable setup c count last front
     pub grew : (more : List Entry) × (p.trace ≡ last.trace ++ more)
     pub counted : length last.trace ≡ total front
 
-  counts : (n : ℕ) (p : Private) (log : List (Action Name)) → AlongTable setup c n p log → IsFairLog setup log → length p.trace ≡ total log
+  counts : (n : ℕ) (p : CpuLocal) (log : List (Action Name)) → AlongTable setup c n p log → IsFairLog setup log → length p.trace ≡ total log
   counts n p log starts = λ fair. refl
   counts n p log (others {n = m} {p = q} {log = past} a along off) = λ fair.
-      counts m q past along fair.1 ∙ ap (λ own. if own then made (a ∷ []) past + total past else total past) (sym off)
+      counts m q past along fair.1 ∙ ap (λ local. if local then made (a ∷ []) past + total past else total past) (sym off)
   counts n p log (steps {n = m} {p = q} {log = past} along stepped) = λ fair.
       let acts = (cpu_step setup c q past).acts in
       let before = lawful_before (IsFair setup) acts past fair in
@@ -193,7 +193,7 @@ module _ (setup : Setup) (c : CpuId) where
       omega (arith, counts m q past along before, (ap length grew.is ∙ length-append q.trace grew.more), grew.many, total_acts acts past (short q past))
 
   -- the way to where it is, cut at a front of the list
-  pub front_of : (n : ℕ) (p : Private) (log : List (Action Name)) → AlongTable setup c n p log → IsFairLog setup log
+  pub front_of : (n : ℕ) (p : CpuLocal) (log : List (Action Name)) → AlongTable setup c n p log → IsFairLog setup log
       → (later earlier : List (Action Name)) → log ≡ later ++ earlier → FrontOf p earlier
   front_of n p log along fair [] earlier is = rw (← is)
       (record { count = n; last = p; along = along; grew = ([], sym (append-nil p.trace)); counted = counts n p log along fair })

@@ -6,18 +6,18 @@ use Rattle.event_log.specs.{declared.{entries.Entry.Entry, ids.{BufId.BufId, Cpu
 use Rattle.event_log.specs.{Actions.phase, Messages.{Message, no_message}, Runs.{Group, Sends, Receives, Closes}, Sections.sections_in}
 use Rattle.guest.specs.{State.{State, message_from, next_of, after_local}, Calls.{IsProgramsCalls, made_none, sends, receives, closes, offers, asks_in_vain}}
 use Rattle.guest.specs.declared.instructions.Instruction.{Instruction, TheVariants.{Set, Add, Sub, Jnz, Send, Recv, Close, Yield, Exit}}
-use Rattle.{guest.proofs.CallsLemmas.{calls-local, calls-yield}, thread_blocks.{specs.Queues.same_tid, proofs.Members.same_tid_true}}
+use Rattle.{guest.proofs.CallsLemmas.{calls-local_is, calls-yield}, thread_blocks.{specs.Queues.same_tid, proofs.Members.same_tid_true}}
 use Rattle.layer_traits.specs.declared.{locked.Side.{Side, TheVariants.{Receivers, Senders}}, call_states.Stage.{Stage, TheVariants.{Idle, Acquires, Enters}}}
 use Rattle.layer_traits.specs.declared.call_states.Stage.TheVariants.{Tries, Waits, AcquiresAgain, Signals, SignalsOwn, Releases}
 use Rattle.layer_traits.specs.{declared.steps.Reason.TheVariants.{AllEnded, TraceFull}, Polling.{Plans.{at_give, is_in_section}, Along.{starts, others, steps}}}
 use Rattle.cpu.specs.Table.{Blocks.{Block, OfBuffer, OfPending, Name, Reported, Done, WasClosed, NotYet, side_of_group, kind_for}, Edits.answer}
-use Rattle.cpu.specs.Table.{Edits.{drawn_position, may_try, report_of_put}, Setups.{Setup, Call, Private, Thread, has_none, have_ended, home_threads}}
+use Rattle.cpu.specs.Table.{Edits.{drawn_position, may_try, report_of_put}, Setups.{SystemConfig, Call, CpuLocal, Thread, has_none, have_ended, home_threads}}
 use Rattle.cpu.specs.Table.{Setups.{new_thread, open_calls, program_of, stands_at, thread_at, with_thread, boot_of}, Choice.{asked, asked_at, asked_by}}
 use Rattle.cpu.specs.Table.Choice.{asked_in, at_call, at_current, at_hand, at_instruction, at_ready, Choice, Halts, Alone, Goes, after_at, after_by, after_call}
 use Rattle.cpu.specs.Table.Choice.{after_in, begin_or_halt, choice, effected, first_section, guest_after, new_call, with_call, with_state, with_told}
 use Rattle.cpu.specs.Table.Choice.{recorded_entry, recorded_try, returned_at, returned_by, returned_in, section_due, settled, slept_if, try_due, woken}
 use Rattle.cpu.specs.{Table.Steps.{AlongTable, acting, after_reply, chosen_step, cpu_step, step_in}, Cpus.of_thread, Wakeups.Order.block_of}
-use Rattle.{cpu.proofs.Wakeups.{Agreement.{at_other, at_same}, ReachedStates.all_new}, cpu_workers.specs.Fronts.come_to}
+use Rattle.{cpu.proofs.Wakeups.{Agreement.{at_other, at_same}, ReachedStates.all_new}, cpu_workers.specs.Prefixes.come_to}
 
 -- What a call has to do with its program.
 
@@ -102,16 +102,16 @@ traced : (trace : List Entry) (e : Entry) (t : ℕ)
     → reverse (of_thread t (trace ++ e ∷ [])) ≡ (if e.thread.0 == t then e ∷ reverse (of_thread t trace) else reverse (of_thread t trace))
 traced trace e t = grind (arith, filter-append (λ (x : Entry). x.thread.0 == t) trace (e ∷ []), reverse-append, append-nil)
 
-module _ (setup : Setup) where
-  abbrev entries_in : Private → Tid → List Entry
+module _ (setup : SystemConfig) where
+  abbrev entries_in : CpuLocal → Tid → List Entry
   entries_in p t = reverse (of_thread t.0 p.trace)
 
   -- each thread of a CPU is in the state to which its entries lead
-  abbrev Follow : Private → Type 0
+  abbrev Follow : CpuLocal → Type 0
   Follow p = (t : Tid) → Stood (program_of setup t) (thread_at p t).guest (entries_in p t) (thread_at p t).call
 
   -- one thread has changed
-  set_thread : (p : Private) (t : Tid) (x : Thread) → Follow p → Stood (program_of setup t) x.guest (entries_in p t) x.call → Follow (with_thread p t x)
+  set_thread : (p : CpuLocal) (t : Tid) (x : Thread) → Follow p → Stood (program_of setup t) x.guest (entries_in p t) x.call → Follow (with_thread p t x)
   set_thread p t x follow now u = by_test (same_tid t u) refl
     where
       here : (t.0 < length p.threads) ⊎ (length p.threads ≤ t.0)
@@ -127,7 +127,7 @@ module _ (setup : Setup) where
       by_test false off = subst (λ (y : Thread). Stood (program_of setup u) y.guest (entries_in p u) y.call) (sym (at_other p t u x off)) (follow u)
 
   -- one that is in no call has changed by itself
-  set_guest : (p : Private) (t : Tid) (guest : State) → (thread_at p t).call ≡ None → Follow p
+  set_guest : (p : CpuLocal) (t : Tid) (guest : State) → (thread_at p t).call ≡ None → Follow p
       → (IsProgramsCalls (program_of setup t) (entries_in p t) (thread_at p t).guest → IsProgramsCalls (program_of setup t) (entries_in p t) guest)
       → Follow (with_state p t guest)
   set_guest p t guest outside follow more =
@@ -135,13 +135,13 @@ module _ (setup : Setup) where
       (more (subst (λ o. Stood (program_of setup t) (thread_at p t).guest (entries_in p t) o) outside (follow t))))
 
   -- one thread has changed by an effect
-  set_effect : (p : Private) (t : Tid) (x : Thread) (e : Entry) → t.0 < length p.threads → e.thread ≡ t → Follow p
+  set_effect : (p : CpuLocal) (t : Tid) (x : Thread) (e : Entry) → t.0 < length p.threads → e.thread ≡ t → Follow p
       → Stood (program_of setup t) x.guest (e ∷ entries_in p t) x.call → Follow (record (with_thread p t x) { trace = p.trace ++ e ∷ [] })
   set_effect p t x e known its follow now u = by_test (same_tid t u) refl
     where
       entries_are : (v : Tid) (mine : Bool) → same_tid t v ≡ mine
           → reverse (of_thread v.0 (p.trace ++ e ∷ [])) ≡ (if mine then e ∷ entries_in p v else entries_in p v)
-      entries_are v mine is = traced p.trace e v.0 ∙ ap (λ own. if own then e ∷ entries_in p v else entries_in p v) (ap (λ w. same_tid w v) its ∙ is)
+      entries_are v mine is = traced p.trace e v.0 ∙ ap (λ local. if local then e ∷ entries_in p v else entries_in p v) (ap (λ w. same_tid w v) its ∙ is)
 
       by_test : (mine : Bool) → same_tid t u ≡ mine
           → Stood (program_of setup u) (thread_at (with_thread p t x) u).guest (reverse (of_thread u.0 (p.trace ++ e ∷ [])))
@@ -156,7 +156,7 @@ module _ (setup : Setup) where
           (subst (λ (y : Thread). Stood (program_of setup u) y.guest (entries_in p u) y.call) (sym (at_other p t u x off)) (follow u))
 
   -- a thread that is inside a call is one of the CPU's
-  known : (p : Private) (t : Tid) (call : Call) → (thread_at p t).call ≡ Some call → t.0 < length p.threads
+  known : (p : CpuLocal) (t : Tid) (call : Call) → (thread_at p t).call ≡ Some call → t.0 < length p.threads
   known p t call inside = grind (arith, cases_lt, get_or_past)
 
   put_message : (lets closed : Bool) (of op : ℕ) (put m : Message) → (if lets then report_of_put closed of put else NotYet) ≡ Done op m → m ≡ put
@@ -171,7 +171,7 @@ module _ (setup : Setup) where
 
   -- A thread inside a call.
 
-  module _ (p : Private) (t : Tid) (call : Call) (inside : (thread_at p t).call ≡ Some call) (follow : Follow p) where
+  module _ (p : CpuLocal) (t : Tid) (call : Call) (inside : (thread_at p t).call ≡ Some call) (follow : Follow p) where
     abbrev program : List Instruction
     program = program_of setup t
 
@@ -261,13 +261,13 @@ module _ (setup : Setup) where
 
   -- What a section leaves.
 
-  slept_follows : (slept : Bool) (p : Private) → Follow p → Follow (slept_if slept p)
+  slept_follows : (slept : Bool) (p : CpuLocal) → Follow p → Follow (slept_if slept p)
   slept_follows slept p follow = grind arith
 
-  woken_follows : (c : CpuId) (woke : Option Tid) (p : Private) → Follow p → Follow (woken setup c woke p)
+  woken_follows : (c : CpuId) (woke : Option Tid) (p : CpuLocal) → Follow p → Follow (woken setup c woke p)
   woken_follows c woke p follow = grind arith
 
-  settled_follows : (p : Private) → Follow p → Follow (settled setup p)
+  settled_follows : (p : CpuLocal) → Follow p → Follow (settled setup p)
   settled_follows p follow = by_hand p.hand p.current
     where
       by_stage : (t : Tid) (call : Call) → (thread_at p t).call ≡ Some call → (stage : Stage) → call.stage ≡ stage → Follow (returned_at setup p t call stage)
@@ -283,7 +283,7 @@ module _ (setup : Setup) where
       by_hand None None = follow
       by_hand None (Some t) = by_call t (thread_at p t).call refl
 
-  module _ (c : CpuId) (p : Private) (follow : Follow p) where
+  module _ (c : CpuId) (p : CpuLocal) (follow : Follow p) where
     call_follows : (t : Tid) (call : Call) → (thread_at p t).call ≡ Some call → (x : Block)
         → Follow (after_call setup c p t call (answer (section_due t call call.stage) x))
     call_follows t call inside x =
@@ -321,7 +321,7 @@ module _ (setup : Setup) where
   FollowChosen (Alone q) = Follow q
   FollowChosen (Goes q) = Follow q
 
-  choice_follows : (c : CpuId) (p : Private) → Follow p → FollowChosen (choice setup c p)
+  choice_follows : (c : CpuId) (p : CpuLocal) → Follow p → FollowChosen (choice setup c p)
   choice_follows c p follow = by_hand p.hand
     where
       begun : (t : Tid) (call : Call) → Opened (program_of setup t) (thread_at p t).guest (entries_in p t) call → call.effect ≡ None
@@ -337,7 +337,7 @@ module _ (setup : Setup) where
           → Follow (with_state p t (after_local i (thread_at p t).guest))
       computes t i outside at = set_guest p t _ outside follow (λ calls.
           subst (λ line. IsProgramsCalls (program_of setup t) (entries_in p t) (after_local line (thread_at p t).guest)) at
-          (calls-local (program_of setup t) (entries_in p t) (thread_at p t).guest calls))
+          (calls-local_is (program_of setup t) (entries_in p t) (thread_at p t).guest calls))
 
       instructed : (t : Tid) (line : Instruction) → (thread_at p t).call ≡ None → stands_at setup p t ≡ line → FollowChosen (at_instruction setup c p t line)
       instructed t line outside at = by_line line at (subst (λ o. Stood (program_of setup t) (thread_at p t).guest (entries_in p t) o) outside (follow t))
@@ -378,10 +378,10 @@ module _ (setup : Setup) where
 
   -- One step, and a way.
 
-  step_follows : (c : CpuId) (p : Private) (log : List (Action Name)) → Follow p → Follow (cpu_step setup c p log).next
+  step_follows : (c : CpuId) (p : CpuLocal) (log : List (Action Name)) → Follow p → Follow (cpu_step setup c p log).next
   step_follows c p log follow = by_section (is_in_section (phase c log))
     where
-      acted : (q : Private) → Follow q → Follow (acting setup c q log).next
+      acted : (q : CpuLocal) → Follow q → Follow (acting setup c q log).next
       acted q now = acting_follows c q now (phase c log) (block_of setup (asked setup c q).lock (sections_in log))
 
       by_choice : (what : Choice) → FollowChosen what → Follow (chosen_step setup c p what log).next
@@ -396,13 +396,13 @@ module _ (setup : Setup) where
   boot_follows : (c : CpuId) → Follow (boot_of setup c)
   boot_follows c t = subst (λ (x : Thread). Stood (program_of setup t) x.guest [] x.call) (sym (all_new setup.homes t.0)) made_none
 
-  along_follows : (c : CpuId) (n : ℕ) (p : Private) (log : List (Action Name)) → AlongTable setup c n p log → Follow p
+  along_follows : (c : CpuId) (n : ℕ) (p : CpuLocal) (log : List (Action Name)) → AlongTable setup c n p log → Follow p
   along_follows c n p log starts = boot_follows c
   along_follows c n p log (others {n = m} {p = q} {log = past} a along off) = along_follows c m q past along
   along_follows c n p log (steps {n = m} {p = q} {log = past} along stepped) = step_follows c q past (along_follows c m q past along)
 
   -- each thread's entries are its program's calls up to its state
-  pub threads_follow : (c : CpuId) (n : ℕ) (p : Private) (log : List (Action Name)) → AlongTable setup c n p log → (t : Tid)
+  pub threads_follow : (c : CpuId) (n : ℕ) (p : CpuLocal) (log : List (Action Name)) → AlongTable setup c n p log → (t : Tid)
       → IsProgramsCalls (program_of setup t) (reverse (of_thread t.0 p.trace)) (come_to setup p t (thread_at p t).call)
   threads_follow c n p log along t = by_call (thread_at p t).call (along_follows c n p log along t)
     where

@@ -3,7 +3,7 @@ use Rattle.std.proofs.Common.{◌≡◌, ◌⊎◌, inl, inr, ℕ, ◌+◌, ◌<
 use Rattle.std.proofs.lemmas.Bool.{cases_lt}
 use Rattle.event_log.{specs.{declared.ids.CpuId.CpuId, History.AreOthers, Actions.{Action, cpu_of_action, phase}}, proofs.Foreign.phase_others}
 use Rattle.layer_traits.specs.{declared.steps.{Reason.Reason, Step.TheVariants.Stepped}, Polling.Along.{Outcome, Along, starts, others, steps, IsStep}}
-use Rattle.{layer_traits.specs.Polling.Plans.is_in_section, cpu.specs.{Table.{Setups.Setup, Steps.{cpu_step, halted_at}}, Tower.Composed.named}}
+use Rattle.{layer_traits.specs.Polling.Plans.is_in_section, cpu.specs.{Table.{Setups.SystemConfig, Steps.{cpu_step, halted_at}}, Tower.Composed.named}}
 use Rattle.{cpu.specs.Tower.Views.TowerName, cpu_workers.specs.declared.workers.{gates.Go.{Go, TheVariants.{Limit, Pass}}, stops.Stop.Stop}}
 use Rattle.cpu_workers.specs.{declared.workers.stops.Stop.TheVariants.{AllEnded, TurnsUsed, TraceFull, Held}, Working.{IsPlanned, IsSame, TookTurns, Charge}}
 use Rattle.cpu_workers.specs.{Working.{Turned, Working, is_inside, log}, Reports.{CountsTurns, HasRun, IsTrueStop, MayHold, Walked, TookWithin, Within}}
@@ -87,20 +87,20 @@ module _ {P N : Type 0} {table : P → List (Action N) → Outcome P N} {cpu : C
 -- under a table of its plan it took so many turns, between two sections only if it might. If the
 -- gate holds it, it took none after that except to end a section. The gate was asked at each turn,
 -- and let a worker pass that it does not hold.
-pub record Goes (setup : Setup) (May : Go → ℕ → Type 0) (turns : ℕ) (start now : Working) (taken : ℕ) (held : Bool) : Type 0 where
-  pub within : TookWithin (cpu_step setup start.cpu) start.cpu (MayTakeTurn turns (May Pass)) start.private now.private (log now) taken
-  pub was_held : held ≡ true → WasHeld (cpu_step setup start.cpu) start.cpu (May Limit) start.private now.private (log now) taken
+pub record Goes (setup : SystemConfig) (May : Go → ℕ → Type 0) (turns : ℕ) (start now : Working) (taken : ℕ) (held : Bool) : Type 0 where
+  pub within : TookWithin (cpu_step setup start.cpu) start.cpu (MayTakeTurn turns (May Pass)) start.cpu_local now.cpu_local (log now) taken
+  pub was_held : held ≡ true → WasHeld (cpu_step setup start.cpu) start.cpu (May Limit) start.cpu_local now.cpu_local (log now) taken
   pub asked : AskedAtEach May taken
   pub passed : held ≡ false → PassedAtEach (May Pass) taken
 
 -- so it did by each table of its plan, and it is the one that began
 pub record Ran (May : CpuId → Go → ℕ → Type 0) (turns : ℕ) (start now : Working) (taken : ℕ) (held : Bool) : Type 0 where
   pub same : IsSame start now
-  pub goes : (setup : Setup) → IsPlanned setup start.plan → Goes setup (May start.cpu) turns start now taken held
+  pub goes : (setup : SystemConfig) → IsPlanned setup start.plan → Goes setup (May start.cpu) turns start now taken held
 
 pub ran_none : (May : CpuId → Go → ℕ → Type 0) (turns : ℕ) (w : Working) → w.acts ≡ [] → Ran May turns w w 0 false
 ran_none May turns w fresh = record {
-  same = record { cpu = refl; plan = refl; site = refl };
+  same = record { cpu = refl; plan = refl; machine_id = refl };
   goes = λ setup of. record {
     within =
         rw fresh (record { count = 0; steps = none_taken; counted = record { least = omega arith; exact = λ few. refl } });
@@ -111,8 +111,9 @@ ran_none May turns w fresh = record {
 }
 
 -- if the gate holds the worker, it did before, or it has returned `Limit`
-held_now : {setup : Setup} {May : Go → ℕ → Type 0} {turns : ℕ} {start now : Working} {taken : ℕ} {held : Bool} → Goes setup May turns start now taken held
-    → (held ≡ true) ⊎ May Limit taken → WasHeld (cpu_step setup start.cpu) start.cpu (May Limit) start.private now.private (log now) taken
+held_now : {setup : SystemConfig} {May : Go → ℕ → Type 0} {turns : ℕ} {start now : Working} {taken : ℕ} {held : Bool}
+    → Goes setup May turns start now taken held
+    → (held ≡ true) ⊎ May Limit taken → WasHeld (cpu_step setup start.cpu) start.cpu (May Limit) start.cpu_local now.cpu_local (log now) taken
 held_now goes (inl was) = goes.was_held was
 held_now {taken = taken} goes (inr may) = record {
   turn = taken;
@@ -136,18 +137,18 @@ asked_on May taken held asked free holds k before = elim (cases_lt k taken) [
     now false is = inl (free is)
 
 -- one turn of the CPU by the step table, inside a section or where it is free to
-record Turn (setup : Setup) (cpu : CpuId) (now next : Working) (Free : Type 0) : Type 0 where
-  pub went : IsStep (λ c. c ≡ cpu) (cpu_step setup cpu) now.private next.private (log now) (log next) Stepped
+record Turn (setup : SystemConfig) (cpu : CpuId) (now next : Working) (Free : Type 0) : Type 0 where
+  pub went : IsStep (λ c. c ≡ cpu) (cpu_step setup cpu) now.cpu_local next.cpu_local (log now) (log next) Stepped
   pub may : (is_in_section (phase cpu (log now)) ≡ true) ⊎ Free
 
 -- the gate was asked, and holds the worker now or does not
 module _ {May : CpuId → Go → ℕ → Type 0} {turns : ℕ} {start now : Working} {taken : ℕ} {held : Bool} (ran : Ran May turns start now taken held) (new : Bool)
     (limits : new ≡ true → (held ≡ true) ⊎ May now.cpu Limit taken) (kept : held ≡ true → new ≡ true) where
-  holds : (setup : Setup) → IsPlanned setup start.plan → new ≡ true
-      → WasHeld (cpu_step setup start.cpu) start.cpu (May start.cpu Limit) start.private now.private (log now) taken
+  holds : (setup : SystemConfig) → IsPlanned setup start.plan → new ≡ true
+      → WasHeld (cpu_step setup start.cpu) start.cpu (May start.cpu Limit) start.cpu_local now.cpu_local (log now) taken
   holds setup of is = held_now (ran.goes setup of) (subst (λ (d : CpuId). (held ≡ true) ⊎ May d Limit taken) ran.same.cpu (limits is))
 
-  passed : (setup : Setup) → IsPlanned setup start.plan → new ≡ false → PassedAtEach (May start.cpu Pass) taken
+  passed : (setup : SystemConfig) → IsPlanned setup start.plan → new ≡ false → PassedAtEach (May start.cpu Pass) taken
   passed setup of free = (ran.goes setup of).passed (grind (arith, kept))
 
   -- it takes no turn
@@ -166,7 +167,7 @@ module _ {May : CpuId → Go → ℕ → Type 0} {turns : ℕ} {start now : Work
   ran_on : {next : Working} → turns ≤ most → (new ≡ false → May now.cpu Pass taken) → (is_inside now ≡ true) ⊎ ((new ≡ false) × (taken < turns))
       → IsSame now next → Turned now next Stepped → Ran May turns start next (counted_on taken) new
   ran_on {next} small passes may same turned = record {
-    same = record { cpu = same.cpu ∙ ran.same.cpu; plan = same.plan ∙ ran.same.plan; site = same.site ∙ ran.same.site };
+    same = record { cpu = same.cpu ∙ ran.same.cpu; plan = same.plan ∙ ran.same.plan; machine_id = same.machine_id ∙ ran.same.machine_id };
     goes = λ setup of.
         let goes = ran.goes setup of in
         let turn = turn_of setup of in record {
@@ -184,7 +185,7 @@ module _ {May : CpuId → Go → ℕ → Type 0} {turns : ℕ} {start now : Work
         };
   }
     where
-      turn_of : (setup : Setup) → IsPlanned setup start.plan → Turn setup start.cpu now next ((new ≡ false) × (taken < turns))
+      turn_of : (setup : SystemConfig) → IsPlanned setup start.plan → Turn setup start.cpu now next ((new ≡ false) × (taken < turns))
       turn_of setup of =
           let planned = subst (λ (p : Charge). IsPlanned setup p) (sym ran.same.plan) of in
           subst (λ (d : CpuId). Turn setup d now next ((new ≡ false) × (taken < turns))) ran.same.cpu (record { went = turned setup planned; may = may })
@@ -192,7 +193,7 @@ module _ {May : CpuId → Go → ℕ → Type 0} {turns : ℕ} {start now : Work
       pass : new ≡ false → May start.cpu Pass taken
       pass free = subst (λ (d : CpuId). May d Pass taken) ran.same.cpu (passes free)
 
-      passed_now : (setup : Setup) → IsPlanned setup start.plan → new ≡ false → (k : ℕ) → k ≤ taken → May start.cpu Pass k
+      passed_now : (setup : SystemConfig) → IsPlanned setup start.plan → new ≡ false → (k : ℕ) → k ≤ taken → May start.cpu Pass k
       passed_now setup of free k least = elim (cases_lt k taken) [
         | inl less ↦ passed setup of free k less
         | inr past ↦ subst (λ (n : ℕ). May start.cpu Pass n) (omega (arith, past, least)) (pass free)
@@ -211,7 +212,7 @@ module _ {May : CpuId → Go → ℕ → Type 0} {turns : ℕ} {start now : Work
 
   -- it stops
   pub has_run : {stop : Stop} → is_inside now ≡ false
-      → ((setup : Setup) → IsPlanned setup now.plan → IsTrueStop (halted_at setup now.cpu now.private) (λ turn. new ≡ true) turns taken stop)
+      → ((setup : SystemConfig) → IsPlanned setup now.plan → IsTrueStop (halted_at setup now.cpu now.cpu_local) (λ turn. new ≡ true) turns taken stop)
       → (stop ≡ TurnsUsed → new ≡ false) → HasRun May turns start now taken stop
   has_run {stop} rests stops used = record {
     same = ran.same;
@@ -222,10 +223,10 @@ module _ {May : CpuId → Go → ℕ → Type 0} {turns : ℕ} {start now : Work
           took = took_of goes.within;
           within = goes.within;
           held = λ is. holds setup of
-              (subst (λ (x : Stop). IsTrueStop (halted_at setup start.cpu now.private) (λ turn. new ≡ true) turns taken x) is is_true).1.2;
+              (subst (λ (x : Stop). IsTrueStop (halted_at setup start.cpu now.cpu_local) (λ turn. new ≡ true) turns taken x) is is_true).1.2;
           asked = goes.asked;
           used = λ is. passed setup of (used is);
-          stop_is = true_stop (halted_at setup start.cpu now.private) turns taken stop
+          stop_is = true_stop (halted_at setup start.cpu now.cpu_local) turns taken stop
               (λ turn is. let was = holds setup of is in (was.turn, was.before, was.may)) is_true;
         };
   }
@@ -241,14 +242,14 @@ pub record AllAllowed (May : ℕ → Type 0) (turns taken k : ℕ) (held : Bool)
   pub passes : (j : ℕ) → taken ≤ j → j < taken + k → May j
 
 module _ {May : CpuId → Go → ℕ → Type 0} {turns : ℕ} {start now : Working} {taken : ℕ} {held : Bool} (ran : Ran May turns start now taken held) (new : Bool)
-    (limits : new ≡ true → (held ≡ true) ⊎ May now.cpu Limit taken) (kept : held ≡ true → new ≡ true) (small : turns ≤ most) (fits : taken ≤ most)
+    (limits : new ≡ true → (held ≡ true) ⊎ May now.cpu Limit taken) (kept : held ≡ true → new ≡ true) (small : turns ≤ most) (coupled : taken ≤ most)
     (passes : new ≡ false → May now.cpu Pass taken) (may : (is_inside now ≡ true) ⊎ ((new ≡ false) × (taken < turns))) where
   -- it may take the turn after so many: the first as the gate was asked for it, each further one as
   -- it is allowed
   next_turn : {k : ℕ} {w : Working} → TookTurns now k w → IsSame start w → (1 < k + 1 → AllAllowed (May now.cpu Pass) turns taken (k + 1) new)
       → (new ≡ false → May w.cpu Pass (shown_after taken k)) × ((is_inside w ≡ true) ⊎ ((new ≡ false) × (shown_after taken k < turns)))
   next_turn TookTurns.no_turns same all =
-      let is : taken ≡ shown_after taken 0 = grind (arith, fits) in
+      let is : taken ≡ shown_after taken 0 = grind (arith, coupled) in
       subst (λ n. (new ≡ false → May now.cpu Pass n) × ((is_inside now ≡ true) ⊎ ((new ≡ false) × (n < turns)))) is (passes, may)
   next_turn {w = w} (TookTurns.one_more {k = k} runs s t) same all =
       let allowed = all (omega arith) in
@@ -261,7 +262,7 @@ module _ {May : CpuId → Go → ℕ → Type 0} {turns : ℕ} {start now : Work
   pub ran_through : {k : ℕ} {next : Working} → TookTurns now k next → (1 < k → AllAllowed (May now.cpu Pass) turns taken k new)
       → Ran May turns start next (shown_after taken k) new
   ran_through TookTurns.no_turns all =
-      let is : taken ≡ shown_after taken 0 = grind (arith, fits) in
+      let is : taken ≡ shown_after taken 0 = grind (arith, coupled) in
       subst (λ n. Ran May turns start now n new) is (ran_still ran new limits kept)
   ran_through {next = next} (TookTurns.one_more {k = k} runs same turned) all =
       let before = ran_through runs (λ many. let allowed = all (omega (arith, many)) in let below = allowed.below in record {

@@ -15,20 +15,21 @@ pub record CallerView : Type 0 where
   pub cpu : CpuId
   pub thread : Tid
   pub caps : List ℕ
-  pub site : List ℕ
+  pub machine_id : List ℕ
   pub calls : List Entry
 
 -- The invariant of a caller. Its part agrees with its machine, which has room at any time. Nothing
 -- is under way, and its thread is in no call. Each buffer opened empty. It counts its calls, which
 -- are at most `MOST_CALLS`.
-pub record IsCaller (PartFits Roomy Nothing Rests Opens : Type 0) (cpu : CpuId) (seen : List Entry)
+pub record IsCaller (PartFits Roomy Nothing Rests Opens : Type 0) (cpu : CpuId)
+    (history : List Entry)
     (made : ℕ) : Type 0 where
-  pub fits : PartFits
+  pub coupled : PartFits
   pub room : Roomy
   pub nothing : Nothing
   pub rests : Rests
   pub opens : Opens
-  pub counted : length (of_cpu cpu seen) ≡ made
+  pub counted : length (of_cpu cpu history) ≡ made
   pub few : made ≤ MOST_CALLS
 
 -- a caller after one more entry
@@ -38,7 +39,7 @@ with_entry caller e =
       cpu = caller.cpu;
       thread = caller.thread;
       caps = caller.caps;
-      site = caller.site;
+      machine_id = caller.machine_id;
       calls = caller.calls ++ e ∷ [];
     }
 
@@ -70,4 +71,4 @@ pub record IsSameCaller (old new : CallerView) : Type 0 where
   pub cpu : new.cpu ≡ old.cpu
   pub thread : new.thread ≡ old.thread
   pub caps : new.caps ≡ old.caps
-  pub site : new.site ≡ old.site
+  pub machine_id : new.machine_id ≡ old.machine_id

@@ -19,13 +19,13 @@ begun_under_way t (Some (Passes pass)) = Some (Passing pass)
 -- the CPU with these threads may begin this: the call if its thread runs, or a pass that is allowed
 -- and does not end that thread
 abbrev pub MayBegin : Tid → Threads → Begun → Type 0
-MayBegin t own Calls = own.current ≡ Some t
-MayBegin t own (Passes pass) = MayPass pass own × (pass ≢ End)
+MayBegin t local Calls = local.current ≡ Some t
+MayBegin t local (Passes pass) = MayPass pass local × (pass ≢ End)
 
 -- the same of a CPU that has begun this, or nothing
 abbrev pub MayPollBegun : Tid → Threads → Option Begun → Type 0
-MayPollBegun t own None = Unit {0}
-MayPollBegun t own (Some begun) = MayBegin t own begun
+MayPollBegun t local None = Unit {0}
+MayPollBegun t local (Some begun) = MayBegin t local begun
 
 -- an effect, if there is one, is that of the call
 abbrev pub IsOne : Call → Option Effect → Type 0
@@ -36,7 +36,7 @@ IsOne call (Some f) = IsEffectOf call f
 pub record Went (cpu : CpuId) (old new : List Entry) (mine : List Entry) : Type 0 where
   pub more : List Entry
   pub grows : new ≡ more ++ old
-  pub own : of_cpu cpu new ≡ mine ++ of_cpu cpu old
+  pub local : of_cpu cpu new ≡ mine ++ of_cpu cpu old
 
 -- A call's progress since these entries were seen. It may be polled. If it took effect, what was
 -- seen has grown by the entry of its effect.
@@ -58,12 +58,12 @@ pub record Returned (cpu : CpuId) (t : Tid) (call : Call) (reply : Reply)
 -- whatever the call's progress, the call has the same progress after a poll that saw these entries
 abbrev pub KeepsOn : CpuId → Tid → Call → List CallState → List CallState → List Entry → List Entry
     → Type 0
-KeepsOn cpu t call before after seen new
-    = (old : List Entry) → IsOn cpu t call (call_state_of before t) old seen
+KeepsOn cpu t call before after history new
+    = (old : List Entry) → IsOn cpu t call (call_state_of before t) old history
     → IsOn cpu t call (call_state_of after t) old new
 
 -- whatever the call's progress, the call has returned with a poll that saw these entries
 abbrev pub EndsCall : CpuId → Tid → Call → Reply → List CallState → List Entry → List Entry → Type 0
-EndsCall cpu t call reply before seen new =
-    (old : List Entry) → IsOn cpu t call (call_state_of before t) old seen
+EndsCall cpu t call reply before history new =
+    (old : List Entry) → IsOn cpu t call (call_state_of before t) old history
     → Returned cpu t call reply old new

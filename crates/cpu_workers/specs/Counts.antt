@@ -58,8 +58,9 @@ pub record HasMade {E B : Type 0} (lock : LockId) (old new : SeatView E B) (time
     0 where
   pub cpu : new.cpu ≡ old.cpu
   pub table : new.table ≡ old.table
-  pub outside : lock_phase new.cpu new.seen ≡ Idle
-  pub more : made old.cpu lock (sections new.seen) ≡ made old.cpu lock (sections old.seen) + times
+  pub outside : lock_phase new.cpu new.history ≡ Idle
+  pub more : made old.cpu lock (sections new.history)
+      ≡ made old.cpu lock (sections old.history) + times
 
 -- each key is returned after so many sections of its CPU
 abbrev pub AllHaveMade : {E B : Type 0} → LockId → List (SeatView E B) → List (SeatView E B) → ℕ
@@ -68,11 +69,11 @@ AllHaveMade lock old new times = Both (λ d e. HasMade lock d e times) old new
 
 -- how often this lock was released in one legal log of the table, which contains all seat views
 -- whole, without other CPUs' events
-pub record IsNumberOfFrees {E B O : Type 0} (rules : Rules E B O) (lock : LockId)
+pub record IsNumberOfFrees {E B O : Type 0} (protocol : Rules E B O) (lock : LockId)
     (table_view : TableView B) (seat_views : List (SeatView E B))
     (number : ℕ) : Type 0 where
   pub log : List (Event (Mark E))
-  pub legal : IsLawful (MayCome (rules.allowed (opened table_view.start))) log
+  pub legal : IsLawful (MayCome (protocol.allowed (opened table_view.start))) log
   pub keys : (i : ℕ) (seat_view : SeatView E B) → slice_get seat_views i ≡ Some seat_view
       → IsIn log seat_view
   pub rest : (c : CpuId) → table_view.cpus ≤ c.0 → own_events cpu_of_event c log ≡ []

@@ -5,17 +5,18 @@ use Rattle.std.specs.{Prelude.{None, slice_get}, List.AllByRecursion}
 use Rattle.event_log.specs.declared.{entries.Entry.Entry, ids.{BufId.BufId, CpuId.CpuId}}
 use Rattle.event_log.specs.declared.ids.LockId.{LockId, TheVariants.{Pending, Buffer as AtBuffer}}
 use Rattle.event_log.specs.{declared.ids.Tid.Tid, Actions.{Action, AreLegal, cpu_of_action, phase}}
-use Rattle.event_log.specs.{History.own_events, Messages.Message, Runs.IsRun}
+use Rattle.event_log.specs.{History.own_events, Messages.Message, Runs.IsLegalHistory}
 use Rattle.event_log.specs.{Streams.IsFirstInFirstOut, Traces.IsInterleaving}
 use Rattle.guest.specs.{Calls.{AreProgramsCalls, IsProgramsCalls, HasEnded}, State.State}
 use Rattle.layer_traits.specs.{Threads.Places.home_of, Polling.Plans.is_in_section}
 use Rattle.cpu.specs.{Claims.{buffer_at, listed}, Cpus.{IsOfHome, of_thread}, Table.Blocks.Block}
-use Rattle.cpu.specs.Table.{Blocks.{Buffer, Name, OfBuffer, OfPending}, Setups.{Setup, Private}}
-use Rattle.cpu.specs.Table.{Setups.{boot_of, program_of}, Steps.{block_at, cpu_step, halted_at}}
-use Rattle.{cpu.specs.Wakeups.Lost.NoWakeUpIsLost, cpu_workers.specs.declared.workers.gates.Go.Go}
-use Rattle.cpu_workers.specs.declared.workers.{gates.Go.TheVariants.{Limit, Pass}, stops.Stop.Stop}
-use Rattle.cpu_workers.specs.declared.workers.stops.Stop.TheVariants.{AllEnded, TurnsUsed, Held}
-use Rattle.cpu_workers.specs.Reports.{IsTrueStop, MayHold, MayTakeTurn, Walked, TookWithin, WasHeld}
+use Rattle.cpu.specs.Table.{Blocks.{Buffer, Name, OfBuffer, OfPending}, Setups.SystemConfig}
+use Rattle.cpu.specs.Table.{Setups.{CpuLocal, boot_of, program_of}, Steps.{block_at, cpu_step}}
+use Rattle.cpu.specs.{Table.Steps.halted_at, Wakeups.Lost.NoWakeUpIsLost}
+use Rattle.cpu_workers.specs.declared.workers.gates.Go.{Go, TheVariants.{Limit, Pass}}
+use Rattle.cpu_workers.specs.declared.workers.stops.Stop.{Stop, TheVariants.{AllEnded, TurnsUsed}}
+use Rattle.cpu_workers.specs.{declared.workers.stops.Stop.TheVariants.Held, Reports.IsTrueStop}
+use Rattle.cpu_workers.specs.Reports.{MayHold, MayTakeTurn, Walked, TookWithin, WasHeld}
 use Rattle.cpu_workers.specs.Reports.{PassedAtEach, AskedAtEach}
 
 -- a report's row for one CPU: its trace, oldest first, how many turns it took, and why it stopped
@@ -26,14 +27,14 @@ pub record CpuReport : Type 0 where
 
 -- a report as plain data: the traces, the turns taken and the stops of all CPUs, and each lock's
 -- block, in the step table's form
-pub record ShownReport : Type 0 where
+pub record ReportView : Type 0 where
   pub traces : List (List Entry)
   pub taken : List ℕ
   pub stops : List Stop
   pub blocks : LockId → Option Block
 
 -- the report has this row at the CPU's number
-pub record IsCpuReportOf (r : ShownReport) (c : CpuId) (line : CpuReport) : Type 0 where
+pub record IsCpuReportOf (r : ReportView) (c : CpuId) (line : CpuReport) : Type 0 where
   pub trace : slice_get r.traces c.0 ≡ Some line.trace
   pub taken : slice_get r.taken c.0 ≡ Some line.taken
   pub stop : slice_get r.stops c.0 ≡ Some line.stop
@@ -49,11 +50,11 @@ abbrev pub held_at : (LockId → Option Block) → BufId → List Message
 held_at blocks b = messages_in (blocks (AtBuffer b))
 
 -- what is left in the first n buffers
-abbrev pub left_in : ℕ → ShownReport → List (List Message)
+abbrev pub left_in : ℕ → ReportView → List (List Message)
 left_in n r = listed (λ b. held_at r.blocks (buffer_at b)) 0 n
 
 -- the program of a thread has ended after these entries, oldest first
-pub record EndsAt (setup : Setup) (t : Tid) (entries : List Entry) : Type 0 where
+pub record EndsAt (setup : SystemConfig) (t : Tid) (entries : List Entry) : Type 0 where
   pub state : State
   pub calls : IsProgramsCalls (program_of setup t) (reverse entries) state
   pub ends : HasEnded (program_of setup t) state
@@ -64,7 +65,7 @@ pub record EndsAt (setup : Setup) (t : Tid) (entries : List Entry) : Type 0 wher
 -- - It stopped with `AllEnded` only if all programs of home threads have ended.
 -- - It stopped with `TurnsUsed` only after its turns, and with `Held` only if the gate may have
 --   held it.
-pub record ReportsTrue (setup : Setup) (May : Go → ℕ → Type 0) (turns : ℕ) (c : CpuId)
+pub record ReportsTrue (setup : SystemConfig) (May : Go → ℕ → Type 0) (turns : ℕ) (c : CpuId)
     (line : CpuReport) : Type 0 where
   pub room : length line.trace ≤ setup.trace_room
   pub stays : AllByRecursion (IsOfHome setup.homes c) line.trace
@@ -79,14 +80,14 @@ pub record ReportsTrue (setup : Setup) (May : Go → ℕ → Type 0) (turns : �
 -- keeps each of them, is a legal history of FIFO buffers and ends in what the blocks hold. For each
 -- buffer the values put are, in that order, the values taken, followed by what its block holds. The
 -- row of each CPU is true.
-pub record IsReport (setup : Setup) (May : CpuId → Go → ℕ → Type 0) (turns : ℕ)
-    (r : ShownReport) : Type 0 where
+pub record IsReport (setup : SystemConfig) (May : CpuId → Go → ℕ → Type 0) (turns : ℕ)
+    (r : ReportView) : Type 0 where
   pub traces_count : length r.traces ≡ setup.cpus
   pub taken_count : length r.taken ≡ setup.cpus
   pub stops_count : length r.stops ≡ setup.cpus
   pub order : List Entry
   pub keeps : IsInterleaving r.traces order
-  pub run : IsRun setup.caps order (left_in (length setup.caps) r)
+  pub run : IsLegalHistory setup.caps order (left_in (length setup.caps) r)
   pub fifo : IsFirstInFirstOut order (left_in (length setup.caps) r)
   pub each : (c : CpuId) → c.0 < setup.cpus
       → (line : CpuReport) × IsCpuReportOf r c line × ReportsTrue setup (May c) turns c line
@@ -100,9 +101,9 @@ pub record IsReport (setup : Setup) (May : CpuId → Go → ℕ → Type 0) (tur
 -- returned `Limit`. If all turns are used, it may have let the CPU pass at each.
 --
 -- The row has the CPU's trace, and its stop is true of the CPU's last state.
-pub record HasGone (setup : Setup) (May : Go → ℕ → Type 0) (turns : ℕ) (c : CpuId)
+pub record HasGone (setup : SystemConfig) (May : Go → ℕ → Type 0) (turns : ℕ) (c : CpuId)
     (log : List (Action Name)) (line : CpuReport) : Type 0 where
-  pub last : Private
+  pub last : CpuLocal
   pub trace_is : line.trace ≡ last.trace
   pub took : Walked (cpu_step setup c) c (boot_of setup c) last log line.taken
   pub within : TookWithin (cpu_step setup c) c (MayTakeTurn turns (May Pass)) (boot_of setup c) last
@@ -115,7 +116,7 @@ pub record HasGone (setup : Setup) (May : Go → ℕ → Type 0) (turns : ℕ) (
   pub stop_is : IsTrueStop (halted_at setup c last) (May Limit) turns line.taken line.stop
 
 -- the blocks are what the sections of these actions leave
-pub record AreLeft (setup : Setup) (log : List (Action Name)) (r : ShownReport) : Type 0 where
+pub record AreLeft (setup : SystemConfig) (log : List (Action Name)) (r : ReportView) : Type 0 where
   pub buffers : (b : BufId) → r.blocks (AtBuffer b) ≡ block_at setup (AtBuffer b) log
   pub queues : (c : CpuId) → c.0 < setup.cpus
       → r.blocks (Pending c) ≡ block_at setup (Pending c) log
@@ -123,8 +124,8 @@ pub record AreLeft (setup : Setup) (log : List (Action Name)) (r : ShownReport) 
 -- a lawful report: there is one legal list of actions along which each CPU went by the step table,
 -- and which has no other actions. The blocks are what the list leaves, and no wake-up is lost in
 -- them.
-pub record IsLawfulReport (setup : Setup) (May : CpuId → Go → ℕ → Type 0) (turns : ℕ)
-    (r : ShownReport) : Type 0 where
+pub record IsLawfulReport (setup : SystemConfig) (May : CpuId → Go → ℕ → Type 0) (turns : ℕ)
+    (r : ReportView) : Type 0 where
   pub report : IsReport setup May turns r
   pub log : List (Action Name)
   pub legal : AreLegal log

@@ -9,7 +9,7 @@ pub mod Lawful
 pub mod ReportRuns
 pub mod Closing
 pub mod Seating
-pub mod Fronts
+pub mod Prefixes
 pub mod Logs
 pub mod Counts
 pub mod Calls

@@ -3,7 +3,7 @@ use Rattle.std.specs.Prelude.{◌≡◌, ℕ, ◌<◌, ◌≤◌, false, List, [
 use Rattle.std.specs.Prelude.{Option, Some, IsSome}
 use Rattle.event_log.specs.declared.{entries.Entry.Entry, ids.{CpuId.CpuId, LockId.LockId}}
 use Rattle.event_log.specs.{declared.ids.LockId.TheVariants.Pending, Actions.{Action, acts_of}}
-use Rattle.event_log.specs.{Actions.phase, History.IsLawful, Messages.Message, Runs.IsRun}
+use Rattle.event_log.specs.{Actions.phase, History.IsLawful, Messages.Message, Runs.IsLegalHistory}
 use Rattle.event_log.specs.{Streams.IsFirstInFirstOut, Traces.IsInterleaving}
 use Rattle.layer_traits.specs.Blocks.{BufferEffects.opening_locks, QueueBlocks.StartsWell}
 use Rattle.layer_traits.specs.{Blocks.QueueBlocks.{homes_in, inner}, Threads.OnePlace.cpu_at}
@@ -34,8 +34,8 @@ pub record IsNewCaller (caps : List ℕ) (c : CpuId) (caller : CallerView) : Typ
 -- A caller has left its machine, which has seen these actions. Its calls are its CPU's effects in
 -- them, once each and in order, and at most `MOST_CALLS`. No section of the CPU is under way.
 pub record HasLeftMachine (caller : CallerView) (acts : List (Action TowerName))
-    (site : List ℕ) : Type 0 where
-  pub site_is : site ≡ caller.site
+    (machine_id : List ℕ) : Type 0 where
+  pub site_is : machine_id ≡ caller.machine_id
   pub few : length caller.calls ≤ MOST_CALLS
   pub trace : IsTraceOf caller.cpu caller.caps acts caller.calls
   pub rests : is_in_section (phase caller.cpu acts) ≡ false
@@ -107,7 +107,7 @@ pub record HaveRun {N : Type 0} (Kept : N → N → CallerView → Type 0) (caps
   pub count : length after ≡ length natives
   pub order : List Entry
   pub keeps : IsInterleaving (map (λ c. c.calls) callers) order
-  pub run : IsRun caps order left
+  pub run : IsLegalHistory caps order left
   pub fifo : IsFirstInFirstOut order left
   pub by_words : IsOrderOfWords (length natives) caps (own_homes (length natives)) order
 
@@ -117,7 +117,7 @@ pub record HasLeftKey {N : Type 0} (Kept : N → N → CallerView → Type 0) (c
     (key : Key) : Type 0 where
   pub cpu_is : key.cpu ≡ c
   pub over : IsOver table_view key
-  pub calls : HasLeftCalls Kept caps c native after (tower_acts (acts_of edit_of key.seen))
+  pub calls : HasLeftCalls Kept caps c native after (tower_acts (acts_of edit_of key.history))
 
 -- all have, one for each CPU
 pub record HaveLeftKeys {N : Type 0} (Kept : N → N → CallerView → Type 0) (caps : List ℕ)

@@ -33,10 +33,10 @@ pub record FollowsProgram (program : List Instruction) (entries : List Entry) (e
 -- its room, and each is of a home thread. Each home thread has a program, whose calls its entries
 -- are.
 pub record HasFollowed (w : Working) : Type 0 where
-  pub room : length w.private.trace ≤ w.plan.limit
-  pub stays : AllByRecursion (IsOfHome w.plan.homes w.cpu) w.private.trace
+  pub room : length w.cpu_local.trace ≤ w.plan.limit
+  pub stays : AllByRecursion (IsOfHome w.plan.homes w.cpu) w.cpu_local.trace
   pub homed : (t : Tid) → home_of w.plan.homes t ≡ Some w.cpu
       → (program : List Instruction) × (slice_index_or w.plan.programs t.0 None ≡ Some program)
   pub follows : (t : Tid) (program : List Instruction)
       → slice_index_or w.plan.programs t.0 None ≡ Some program
-      → FollowsProgram program (of_thread t.0 w.private.trace) (thread_at w.private t).ended
+      → FollowsProgram program (of_thread t.0 w.cpu_local.trace) (thread_at w.cpu_local t).ended

@@ -4,8 +4,9 @@ use Rattle.std.specs.Prelude.{◌≡◌, ℕ, ◌+◌, ◌-◌, ◌<◌, ◌≤�
 use Rattle.std.specs.Prelude.{Some, None, slice_get, if◌then◌else◌}
 use Rattle.event_log.specs.declared.{entries.Entry.Entry, ids.{CpuId.CpuId, Tid.Tid}}
 use Rattle.{event_log.specs.Actions.Action, cpu.specs.{Cpus.{of_cpu, of_thread}, Table.Setups.Call}}
-use Rattle.cpu.specs.{Table.Setups.{Private, Setup, has_none, thread_at}, Tower.Views.TowerName}
-use Rattle.cpu_workers.specs.{Fronts.AreLinearizable, Orders.effects_of}
+use Rattle.cpu.specs.Table.Setups.{CpuLocal, SystemConfig, has_none, thread_at}
+use Rattle.{cpu.specs.Tower.Views.TowerName, cpu_workers.specs.Prefixes.AreLinearizable}
+use Rattle.cpu_workers.specs.Orders.{effects_of}
 
 -- how many calls of a thread have returned, and how many have begun, if so many took effect and
 -- this one is under way
@@ -23,10 +24,10 @@ thread_entries c t es = of_thread t.0 (of_cpu c es)
 
 -- how many calls of a CPU's thread have returned, and how many have begun, in the CPU's present
 -- state
-abbrev pub calls_returned : Private → Tid → ℕ
+abbrev pub calls_returned : CpuLocal → Tid → ℕ
 calls_returned p t = returned_with (thread_at p t).call (length (of_thread t.0 p.trace))
 
-abbrev pub calls_begun : Private → Tid → ℕ
+abbrev pub calls_begun : CpuLocal → Tid → ℕ
 calls_begun p t = begun_with (thread_at p t).call (length (of_thread t.0 p.trace))
 
 -- call i of the CPU's thread, counted from 0, is at this place of the order
@@ -41,7 +42,7 @@ pub record StandsAt (c : CpuId) (t : Tid) (i : ℕ) (order : List Entry) (place 
 -- call j of another has not begun, then i is before j in the order of all calls.
 abbrev pub ReturnedComeFirst : Type 0
 ReturnedComeFirst =
-    (setup : Setup) (acts later earlier : List (Action TowerName))
+    (setup : SystemConfig) (acts later earlier : List (Action TowerName))
     → (linear : AreLinearizable setup acts) → (is : acts ≡ later ++ earlier)
     → (c d : CpuId) (here : c.0 < setup.cpus) (there : d.0 < setup.cpus) (t u : Tid) (i j p q : ℕ)
     → i < calls_returned ((linear later earlier is).worked.ran c here).last t

@@ -5,7 +5,7 @@ use Rattle.event_log.specs.{declared.ids.CpuId.CpuId, Actions.{Action, cpu_of_ac
 use Rattle.{event_log.specs.History.same_cpu, layer_traits.specs.declared.steps.Reason.Reason}
 use Rattle.layer_traits.specs.{declared.steps.Step.TheVariants.Stepped, Polling.Along.Outcome}
 use Rattle.layer_traits.specs.Polling.{Along.Along, Plans.is_in_section}
-use Rattle.cpu.specs.Table.{Setups.Setup, Steps.{cpu_step, halted_at}}
+use Rattle.cpu.specs.Table.{Setups.SystemConfig, Steps.{cpu_step, halted_at}}
 use Rattle.cpu_workers.specs.declared.workers.gates.Go.{Go, TheVariants.{Limit, Pass}}
 use Rattle.cpu_workers.specs.declared.workers.stops.Stop.{Stop, TheVariants.{AllEnded, TurnsUsed}}
 use Rattle.cpu_workers.specs.declared.workers.stops.Stop.TheVariants.{TraceFull, Held}
@@ -107,16 +107,16 @@ MayTakeTurn turns MayPass count = below turns count × WasAsked MayPass count
 -- taken. If the worker was held, it took no turn after a `Limit` except to end its section. The
 -- gate was asked before each turn, also inside a section, until it returned `Limit`. If all turns
 -- are used, it may have let the worker pass at each.
-pub record WentBy (setup : Setup) (May : Go → ℕ → Type 0) (turns : ℕ) (old new : Working)
+pub record WentBy (setup : SystemConfig) (May : Go → ℕ → Type 0) (turns : ℕ) (old new : Working)
     (taken : ℕ) (stop : Stop) : Type 0 where
-  pub took : Walked (cpu_step setup old.cpu) old.cpu old.private new.private (log new) taken
+  pub took : Walked (cpu_step setup old.cpu) old.cpu old.cpu_local new.cpu_local (log new) taken
   pub within : TookWithin (cpu_step setup old.cpu) old.cpu (MayTakeTurn turns (May Pass))
-      old.private new.private (log new) taken
-  pub held : stop ≡ Held → WasHeld (cpu_step setup old.cpu) old.cpu (May Limit) old.private
-      new.private (log new) taken
+      old.cpu_local new.cpu_local (log new) taken
+  pub held : stop ≡ Held → WasHeld (cpu_step setup old.cpu) old.cpu (May Limit) old.cpu_local
+      new.cpu_local (log new) taken
   pub asked : AskedAtEach May taken
   pub used : stop ≡ TurnsUsed → PassedAtEach (May Pass) taken
-  pub stop_is : IsTrueStop (halted_at setup old.cpu new.private) (May Limit) turns taken stop
+  pub stop_is : IsTrueStop (halted_at setup old.cpu new.cpu_local) (May Limit) turns taken stop
 
 -- A worker has run. It is the same one, and none of its sections is under way. Each table of its
 -- plan gives its steps and its stop.
@@ -124,12 +124,12 @@ pub record HasRun (May : CpuId → Go → ℕ → Type 0) (turns : ℕ) (old new
     (stop : Stop) : Type 0 where
   pub same : IsSame old new
   pub rests : is_inside new ≡ false
-  pub went : (setup : Setup) → IsPlanned setup old.plan
+  pub went : (setup : SystemConfig) → IsPlanned setup old.plan
       → WentBy setup (May old.cpu) turns old new taken stop
 
 -- each element of the one list has its own in the other, in order
 abbrev pub Both : {A B : Type 0} → (A → B → Type 0) → List A → List B → Type 0
-Both Fits [] [] = Unit {0}
-Both Fits [] (y ∷ ys) = ⊥
-Both Fits (x ∷ xs) [] = ⊥
-Both Fits (x ∷ xs) (y ∷ ys) = Fits x y × Both Fits xs ys
+Both Coupled [] [] = Unit {0}
+Both Coupled [] (y ∷ ys) = ⊥
+Both Coupled (x ∷ xs) [] = ⊥
+Both Coupled (x ∷ xs) (y ∷ ys) = Coupled x y × Both Coupled xs ys

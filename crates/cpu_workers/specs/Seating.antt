@@ -62,29 +62,29 @@ pub record IsUnused (Fresh Homes Caps Unseen Idle Opens : Type 0) : Type 0 where
 pub record IsAtBoot (plan : BootPlan) (c : CpuId) (w : Working) : Type 0 where
   pub cpu_is : w.cpu ≡ c
   pub planned : IsPlanned (setup_for plan) w.plan
-  pub boots : w.private ≡ boot_of (setup_for plan) c
+  pub boots : w.cpu_local ≡ boot_of (setup_for plan) c
   pub fresh : w.acts ≡ []
 
 -- the worker's trace and what its machine has seen, apart from it, and what it keeps
-pub record IsApart (w : Working) (acts : List (Action TowerName)) (site : List ℕ)
+pub record IsApart (w : Working) (acts : List (Action TowerName)) (machine_id : List ℕ)
     (trace : List Entry) : Type 0 where
   pub acts_are : acts ≡ w.acts
-  pub site_is : site ≡ w.site
-  pub trace_is : trace ≡ w.private.trace
-  pub own : IsTraceOf w.cpu w.plan.caps w.acts w.private.trace
+  pub site_is : machine_id ≡ w.machine_id
+  pub trace_is : trace ≡ w.cpu_local.trace
+  pub local : IsTraceOf w.cpu w.plan.caps w.acts w.cpu_local.trace
   pub legal : AreLegal w.acts
   pub follows : HasFollowed w
 
 -- the worker of a CPU of a plan has run from before its first turn to its stop, and this is what it
 -- left
 pub record HasLeft (plan : BootPlan) (May : CpuId → Go → ℕ → Type 0) (turns : ℕ) (c : CpuId)
-    (acts : List (Action TowerName)) (site : List ℕ)
+    (acts : List (Action TowerName)) (machine_id : List ℕ)
     (trace : List Entry) (taken : ℕ) (stop : Stop) : Type 0 where
   pub first : Working
   pub last : Working
   pub at_boot : IsAtBoot plan c first
   pub ran : HasRun May turns first last taken stop
-  pub apart : IsApart last acts site trace
+  pub apart : IsApart last acts machine_id trace
 
 -- the worker of a CPU left its key of this table, which is outside all locks, and the rest
 pub record LeftKey (plan : BootPlan) (May : CpuId → Go → ℕ → Type 0) (turns : ℕ)
@@ -92,7 +92,7 @@ pub record LeftKey (plan : BootPlan) (May : CpuId → Go → ℕ → Type 0) (tu
     (trace : List Entry) (taken : ℕ) (stop : Stop) : Type 0 where
   pub cpu_is : key.cpu ≡ c
   pub over : IsOver table_view key
-  pub left : HasLeft plan May turns c (tower_acts (acts_of edit_of key.seen)) (site_of key.table)
+  pub left : HasLeft plan May turns c (tower_acts (acts_of edit_of key.history)) (site_of key.table)
       trace taken stop
 
 -- the workers of all CPUs have left what these lists have, by CPU

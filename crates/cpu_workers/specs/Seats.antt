@@ -3,7 +3,7 @@
 -- Each buffer opened empty.
 pub record IsWorker (Stepwise PartFits NumberIs InOrder Tabled Roomy Opens : Type 0) : Type 0 where
   pub stepwise : Stepwise
-  pub fits : PartFits
+  pub coupled : PartFits
   pub number : NumberIs
   pub is : InOrder
   pub tabled : Tabled

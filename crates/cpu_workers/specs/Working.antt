@@ -4,8 +4,8 @@ use Rattle.event_log.specs.{declared.ids.{CpuId.CpuId, Tid.Tid}, Actions.{Action
 use Rattle.guest.specs.declared.instructions.Instruction.{Instruction}
 use Rattle.layer_traits.specs.declared.steps.Step.{Step, TheVariants.Stepped}
 use Rattle.layer_traits.specs.Polling.{Along.IsStep, Plans.is_in_section}
-use Rattle.cpu.specs.Table.{Blocks.Name, Setups.{Setup, Private, program_of}, Steps.cpu_step}
-use Rattle.cpu.specs.{Table.Steps.halted_at, Tower.Composed.{busy_step_answer, named}}
+use Rattle.cpu.specs.Table.{Blocks.Name, Setups.{SystemConfig, CpuLocal, program_of}}
+use Rattle.cpu.specs.{Table.Steps.{cpu_step, halted_at}, Tower.Composed.{busy_step_answer, named}}
 use Rattle.cpu.specs.Tower.Views.{TowerName}
 
 -- what no turn changes: the home of each thread, the capacity of each buffer, the programs of the
@@ -21,9 +21,9 @@ pub record Charge : Type 0 where
 pub record Working : Type 0 where
   pub cpu : CpuId
   pub plan : Charge
-  pub private : Private
+  pub cpu_local : CpuLocal
   pub acts : List (Action TowerName)
-  pub site : List ℕ
+  pub machine_id : List ℕ
 
 -- the actions that the CPU has seen, by the names of the step table
 abbrev pub log : Working → List (Action Name)
@@ -35,7 +35,7 @@ is_inside w = is_in_section (phase w.cpu (log w))
 
 -- the step table is that of this plan: it may contain more programs, those of other CPUs' home
 -- threads
-pub record IsPlanned (setup : Setup) (plan : Charge) : Type 0 where
+pub record IsPlanned (setup : SystemConfig) (plan : Charge) : Type 0 where
   pub homes_are : setup.homes ≡ plan.homes
   pub caps_are : setup.caps ≡ plan.caps
   pub room_is : setup.trace_room ≡ plan.limit
@@ -46,12 +46,13 @@ pub record IsPlanned (setup : Setup) (plan : Charge) : Type 0 where
 pub record IsSame (old new : Working) : Type 0 where
   pub cpu : new.cpu ≡ old.cpu
   pub plan : new.plan ≡ old.plan
-  pub site : new.site ≡ old.site
+  pub machine_id : new.machine_id ≡ old.machine_id
 
 -- a turn: other CPUs acted, and then this CPU took a step of the table with this result
 abbrev pub Turned : Working → Working → Step → Type 0
-Turned old new answer = (setup : Setup) → IsPlanned setup old.plan
-    → IsStep (λ c. c ≡ old.cpu) (cpu_step setup old.cpu) old.private new.private (log old) (log new)
+Turned old new answer = (setup : SystemConfig) → IsPlanned setup old.plan
+    → IsStep (λ c. c ≡ old.cpu) (cpu_step setup old.cpu) old.cpu_local new.cpu_local (log old)
+    (log new)
     answer
 
 -- so many turns, one after the other, each with a step of the table
@@ -62,5 +63,5 @@ pub data TookTurns (old : Working) : ℕ → Working → Type 0 where
 
 -- The step table takes a step of the worker's CPU, whatever other CPUs do before it. A section of
 -- it is under way, or it is not halted.
-abbrev pub MayStep : Setup → Working → Type 0
-MayStep setup w = busy_step_answer (is_inside w) (halted_at setup w.cpu w.private) ≡ Stepped
+abbrev pub MayStep : SystemConfig → Working → Type 0
+MayStep setup w = busy_step_answer (is_inside w) (halted_at setup w.cpu w.cpu_local) ≡ Stepped

@@ -33,21 +33,21 @@ impl SplitEdit for AddOne {
 
     type Out = u64;
 
-    type Handed = AddOne;
+    type Request = AddOne;
 
-    type Brought = u64;
+    type Response = u64;
 
-    ghost rules = { counting };
+    ghost protocol = { counting };
 
-    ghost meant = { λ handed payload. handed };
+    ghost abstract_call = { λ handed payload. handed };
 
-    ghost told = { λ out payload. out };
+    ghost abstract_answer = { λ out payload. out };
 
     fn whole(_handed: &AddOne, _payload: &Payload) -> AddOne {
         AddOne
     }
 
-    fn apply_handed(_handed: &AddOne, block: &mut u64, _payload: &mut Payload) -> u64 {
+    fn apply_request(_handed: &AddOne, block: &mut u64, _payload: &mut Payload) -> u64 {
         let before = *block;
         *block = before.wrapping_add(1);
         before
@@ -59,7 +59,7 @@ impl Edit for AddOne {
         self
     }
 
-    fn bring_back(brought: u64, _payload: &mut Payload) -> u64 {
-        brought
+    fn bring_back(response: u64, _payload: &mut Payload) -> u64 {
+        response
     }
 }

@@ -1,7 +1,7 @@
 //! The theorems on workers that run at one table. Each law is the contract of a function that does
 //! nothing, so that the law is proved with the crate.
 
-ghost use Rattle.cpu_workers.specs.{Closing.ReportsAreLawful, Laws.{ActionsLetOrderGoOn, FrontsKeepOrder, StopsAreTrue, WorkersLoseNoWakeUp}};
+ghost use Rattle.cpu_workers.specs.{Closing.ReportsAreLawful, Laws.{ActionsExtendOrder, PrefixesKeepOrder, StopReasonsHold, WorkersLoseNoWakeUp}};
 ghost use Rattle.cpu_workers.specs.{RealTime.ReturnedComeFirst, ReportRuns.ReportsAreRuns};
 
 use crate::workers::Gate;
@@ -18,22 +18,22 @@ pub fn workers_lose_no_wake_up()
 /// is of the thread's CPU. The order of a report, or of native callers, is that of the effects of
 /// one list of atomic steps. Therefore it is the order of the linearization points: the steps in
 /// which the calls took effect.
-pub fn actions_let_order_go_on()
-    ensures { ActionsLetOrderGoOn }
+pub fn actions_extend_order()
+    ensures { ActionsExtendOrder }
 {}
 
-/// The order that prefixes keep follows from what each action appends: `ActionsLetOrderGoOn`
-/// implies `FrontsKeepOrder`.
+/// The order that prefixes keep follows from what each action appends: `ActionsExtendOrder`
+/// implies `PrefixesKeepOrder`.
 pub fn fronts_by_actions()
-    ensures { ActionsLetOrderGoOn → FrontsKeepOrder }
+    ensures { ActionsExtendOrder → PrefixesKeepOrder }
 {}
 
 /// Prefixes of a list of atomic steps keep the order of calls. The order at the longer of two
 /// prefixes is the order at the shorter one, followed by further calls. None of these is of a
 /// thread that took no step in between. Therefore a call that took effect within the shorter prefix
 /// is before each call that took effect later.
-pub fn fronts_keep_order()
-    ensures { FrontsKeepOrder }
+pub fn prefixes_keep_order()
+    ensures { PrefixesKeepOrder }
 {}
 
 /// Real time, as Herlihy and Wing define linearizability. At each prefix of linearizable actions,
@@ -44,8 +44,8 @@ pub fn returned_come_first()
 
 /// A worker stops with `AllEnded` only if each home thread of its CPU has ended. It stops with
 /// `TurnsUsed` or `Held` only if its CPU is not halted.
-pub fn stops_are_true()
-    ensures { StopsAreTrue }
+pub fn stop_reasons_hold()
+    ensures { StopReasonsHold }
 {}
 
 /// The report of workers whose threads were joined and whose table was closed is lawful. There is

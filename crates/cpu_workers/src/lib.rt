@@ -25,14 +25,14 @@ mod refusals;
 mod workers;
 
 pub use laws::{
-    actions_let_order_go_on, fronts_by_actions, fronts_keep_order, reports_are_lawful,
-    reports_are_runs, returned_come_first, stops_are_true, workers_lose_no_wake_up,
+    actions_extend_order, fronts_by_actions, prefixes_keep_order, reports_are_lawful,
+    reports_are_runs, returned_come_first, stop_reasons_hold, workers_lose_no_wake_up,
 };
 pub use locks::{OnLock, PlanWords};
 pub use natives::{Native, NativeReport, run_native};
 pub use own_threads::{Joined, NoThread};
 pub use refusals::WorkerError;
 pub use workers::{
-    Caller, Came, Closed, Did, Gate, Go, Hints, MOST_CALLS, Manners, OpenGate, Report, Stop,
+    Caller, Came, Closed, Did, Gate, Go, HandoffBackoff, Hints, MOST_CALLS, OpenGate, Report, Stop,
     Worker, call, run_workers, work, work_all,
 };

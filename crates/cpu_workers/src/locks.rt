@@ -9,7 +9,7 @@ ghost use Rattle.boot.specs.declared.locks.LockKind.TheVariants as kind;
 pub use boot::LockKind;
 use layer_traits::SplitEdit;
 pub use plain_machine::{Granting, LockWords};
-use plain_machine::{LineWords, Plain};
+use plain_machine::{LockQueueWords, Plain};
 use table_machine::TableWords;
 pub use table_machine::{TicketWords, WaiterWords};
 
@@ -82,6 +82,6 @@ impl OnLock for Granting {
     ghost lock_kind = { kind.Grant };
 }
 
-impl<E: SplitEdit, K: LineWords + OnLock> OnLock for Plain<E, K> {
+impl<E: SplitEdit, K: LockQueueWords + OnLock> OnLock for Plain<E, K> {
     ghost lock_kind = { K.lock_kind };
 }

@@ -59,7 +59,7 @@ fn group_of(alloc: Global, count: usize) -> Result<Vec<WaitGroup>, AllocError>
     Ok(group)
 }
 
-fn supplies_for<T: Task + Drop>(alloc: Global, count: usize) -> Result<Supplies<T>, AllocError>
+fn permits_for<T: Task + Drop>(alloc: Global, count: usize) -> Result<Supplies<T>, AllocError>
 where
     T::Done: Drop,
     ensures starts { IfOk result
@@ -204,7 +204,7 @@ where
     ensures ran { IfOk result (λ joined. Both T.HasDone tasks.items joined.done.items) }
     ensures refused { IfErr result (λ r. r.back.items ≡ tasks.items) }
 {
-    let supplies = match supplies_for(alloc, tasks.len()) {
+    let supplies = match permits_for(alloc, tasks.len()) {
         Ok(supplies) => supplies,
         Err(error) => {
             return Err(Refused {

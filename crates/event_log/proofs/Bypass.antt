@@ -22,4 +22,4 @@ few_pass past between cpu lock legal tries =
     let is = spot_is_near (between ++ taken) legal cpu lock now.stands in
     let sum : gives lock (between ++ taken) ≡ gives lock between + gives lock past = gives_of_both lock between taken in
     let before : gives lock taken ≡ gives lock past = refl in
-    omega (arith, was.1, is.0, sum, before, now.spot, at_first.spot)
+    omega (arith, was.1, is.0, sum, before, now.ticket_index, at_first.ticket_index)

@@ -2,7 +2,7 @@
 -- one lock.
 use Rattle.std.proofs.{Common.{◌≡◌, ◌+◌, ◌<◌, ◌≤◌, Bool, true, false, List, [], ◌∷◌, if◌then◌else◌, refl, ap, ◌∙◌, arith}, lemmas.Bool.eqb-true}
 use Rattle.event_log.specs.{declared.ids.{CpuId.CpuId, LockId.LockId, TheConstants.CPUS}, History.{same_cpu, same_lock}, Actions.{Action, Take, Try, Give}}
-use Rattle.event_log.specs.Actions.{Phase, Rests, Waits, Holds, phase, phase_after, cpu_of_action, spot_of, takes, gives, MayAct, AreLegal}
+use Rattle.event_log.specs.Actions.{Phase, Rests, Waits, Holds, phase, phase_after, cpu_of_action, ticket_index_of, takes, gives, MayAct, AreLegal}
 use Rattle.event_log.proofs.{Same.{same_cpu_self, same_lock_self, same_lock_true}, Line.{Line, crowd_none, crowd_within, line_stays, line_joined, line_left}}
 
 -- whether a CPU in this phase is at the lock
@@ -20,7 +20,7 @@ is_holding lock (Holds at) = same_lock lock at
 -- the queue at a lock after these actions
 abbrev pub LineAt : {N : Type 0} → LockId → List (Action N) → Type 0
 LineAt lock actions =
-    Line (takes lock actions) (gives lock actions) (λ c. is_at lock (phase c actions)) (λ c. is_holding lock (phase c actions)) (λ c. spot_of c actions)
+    Line (takes lock actions) (gives lock actions) (λ c. is_at lock (phase c actions)) (λ c. is_holding lock (phase c actions)) (λ c. ticket_index_of c actions)
 
 -- an action changes no other CPU's phase and ticket index
 pub phase_other : {N : Type 0} (a : Action N) (past : List (Action N)) (c : CpuId) → same_cpu (cpu_of_action a) c ≡ false → phase c (a ∷ past) ≡ phase c past
@@ -29,13 +29,14 @@ phase_other a past c other = ap (λ b. if b then phase_after a else phase c past
 pub phase_own : {N : Type 0} (a : Action N) (past : List (Action N)) → phase (cpu_of_action a) (a ∷ past) ≡ phase_after a
 phase_own a past = ap (λ b. if b then phase_after a else phase (cpu_of_action a) past) (same_cpu_self (cpu_of_action a))
 
-pub spot_other : {N : Type 0} (a : Action N) (past : List (Action N)) (c : CpuId) → same_cpu (cpu_of_action a) c ≡ false → spot_of c (a ∷ past) ≡ spot_of c past
+pub spot_other : {N : Type 0} (a : Action N) (past : List (Action N)) (c : CpuId) → same_cpu (cpu_of_action a) c ≡ false
+    → ticket_index_of c (a ∷ past) ≡ ticket_index_of c past
 spot_other a past c other = grind arith
 
 -- what an action leaves to all others
 others_same : {N : Type 0} (lock : LockId) (past : List (Action N)) (a : Action N) (c : CpuId) → same_cpu (cpu_of_action a) c ≡ false
     → (is_at lock (phase c (a ∷ past)) ≡ is_at lock (phase c past)) × (is_holding lock (phase c (a ∷ past)) ≡ is_holding lock (phase c past))
-    × (spot_of c (a ∷ past) ≡ spot_of c past)
+    × (ticket_index_of c (a ∷ past) ≡ ticket_index_of c past)
 others_same lock past a c o = (ap (is_at lock) (phase_other a past c o), ap (is_holding lock) (phase_other a past c o), spot_other a past c o)
 
 pub at_either : (lock m : LockId) (hit : Bool) → is_at lock (if hit then Holds m else Waits m) ≡ same_lock lock m
@@ -47,7 +48,7 @@ holding_if lock m hit h = grind arith
 line_take : {N : Type 0} (lock : LockId) (past : List (Action N)) → LineAt lock past → (d : CpuId) (m : LockId)
     → d.0 < CPUS → phase d past ≡ Rests → (b : Bool) → same_lock lock m ≡ b
     → Line (if b then takes lock past + 1 else takes lock past) (gives lock past)
-    (λ c. is_at lock (phase c (Take d m ∷ past))) (λ c. is_holding lock (phase c (Take d m ∷ past))) (λ c. spot_of c (Take d m ∷ past))
+    (λ c. is_at lock (phase c (Take d m ∷ past))) (λ c. is_holding lock (phase c (Take d m ∷ past))) (λ c. ticket_index_of c (Take d m ∷ past))
 line_take lock past line d m known rests false elsewhere =
     line_stays line d (others_same lock past (Take d m)) (grind (arith, phase_own, same_cpu_self)) (λ h. grind (arith, phase_own))
     (λ h. grind (arith, phase_own, same_cpu_self))
@@ -58,7 +59,7 @@ line_take lock past line d m known rests true here =
 line_give : {N : Type 0} (lock : LockId) (past : List (Action N)) → LineAt lock past → (d : CpuId) (m : LockId) (name : N)
     → phase d past ≡ Holds m → (b : Bool) → same_lock lock m ≡ b
     → Line (takes lock past) (if b then gives lock past + 1 else gives lock past)
-    (λ c. is_at lock (phase c (Give d m name ∷ past))) (λ c. is_holding lock (phase c (Give d m name ∷ past))) (λ c. spot_of c (Give d m name ∷ past))
+    (λ c. is_at lock (phase c (Give d m name ∷ past))) (λ c. is_holding lock (phase c (Give d m name ∷ past))) (λ c. ticket_index_of c (Give d m name ∷ past))
 line_give lock past line d m name holds false elsewhere =
     line_stays line d (others_same lock past (Give d m name)) (grind (arith, phase_own, same_cpu_self)) (λ h. refl)
     (λ h. grind (arith, phase_own, same_cpu_self))
@@ -96,10 +97,10 @@ one_holds actions legal a b lock first second =
 -- a CPU that waits at a lock or holds it has a ticket index among those not yet served, of which
 -- there are at most CPUS
 pub spot_is_near : {N : Type 0} (actions : List (Action N)) → AreLegal actions → (c : CpuId) (lock : LockId)
-    → is_at lock (phase c actions) ≡ true → (gives lock actions ≤ spot_of c actions) × (spot_of c actions < gives lock actions + CPUS)
+    → is_at lock (phase c actions) ≡ true → (gives lock actions ≤ ticket_index_of c actions) × (ticket_index_of c actions < gives lock actions + CPUS)
 spot_is_near actions legal c lock there =
     let line = line_at lock actions legal in
-    let waiting : spot_of c actions < takes lock actions = line.behind c there in
+    let waiting : ticket_index_of c actions < takes lock actions = line.behind c there in
     (line.ahead c there, omega (arith, line.balance, waiting, crowd_within (λ c. is_at lock (phase c actions)) CPUS))
 
 -- each CPU that acted is a CPU of the machine

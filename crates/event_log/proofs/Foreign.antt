@@ -2,7 +2,7 @@
 -- there are none.
 use Rattle.std.proofs.Common.{arith, ◌≡◌, ◌<◌, false, List, [], ◌∷◌, ◌++◌, if◌then◌else◌, refl, ap, sym, subst, ◌∙◌}
 use Rattle.event_log.specs.{declared.{ids.{CpuId.CpuId, TheConstants.CPUS}, events.Event.Event}, History.{same_cpu, own_events, IsLawful, AreOthers}}
-use Rattle.event_log.specs.{WordsLog.{cpu_of_event, lock_phase}, Actions.{Action, Take, Try, Give, phase, cpu_of_action, spot_of, MayAct}}
+use Rattle.event_log.specs.{WordsLog.{cpu_of_event, lock_phase}, Actions.{Action, Take, Try, Give, phase, cpu_of_action, ticket_index_of, MayAct}}
 use Rattle.event_log.{specs.{Actions.{AreLegal, act_of, acts_of}, Sections.{cpu_of_section, sections_of, sections_in}}, proofs.Same.same_lock_self}
 use Rattle.event_log.proofs.{Exclusion.{is_at, phase_other, spot_other, cpu_is_known}, Tickets.{lock_phase_other, cpu_of_action_is}}
 
@@ -43,7 +43,8 @@ pub phase_others : {N : Type 0} (c : CpuId) (others past : List (Action N)) → 
 phase_others c [] past foreign = refl
 phase_others c (a ∷ others) past foreign = phase_other a (others ++ past) c foreign.0 ∙ phase_others c others past foreign.1
 
-pub spot_others : {N : Type 0} (c : CpuId) (others past : List (Action N)) → AreOthers cpu_of_action c others → spot_of c (others ++ past) ≡ spot_of c past
+pub spot_others : {N : Type 0} (c : CpuId) (others past : List (Action N)) → AreOthers cpu_of_action c others
+    → ticket_index_of c (others ++ past) ≡ ticket_index_of c past
 spot_others c [] past foreign = refl
 spot_others c (a ∷ others) past foreign = spot_other a (others ++ past) c foreign.0 ∙ spot_others c others past foreign.1
 

@@ -3,19 +3,19 @@ use Rattle.std.proofs.{Common.{arith, ◌≡◌, List, [], ◌∷◌, ◌++◌, 
 use Rattle.{std.proofs.lemmas.List.reverse-reverse, event_log.specs.{History.IsLawful, Forms.IsLawfulLog}}
 
 -- in a lawful history each event may follow what was before it
-pub splits_from : {E : Type 0} (May : List E → E → Type 0) (history later : List E) (e : E) (past : List E)
-    → IsLawful May history → history ≡ later ++ (e ∷ past) → May past e
+pub splits_from : {E : Type 0} (May : List E → E → Type 0) (event_list later : List E) (e : E) (past : List E)
+    → IsLawful May event_list → event_list ≡ later ++ (e ∷ past) → May past e
 splits_from May [] [] e past lawful split = absurd cc
 splits_from May [] (l ∷ later) e past lawful split = absurd cc
-splits_from May (x ∷ history) [] e past lawful split = let may = lawful.0 in grind arith
-splits_from May (x ∷ history) (l ∷ later) e past lawful split = splits_from May history later e past lawful.1 (cc (split))
+splits_from May (x ∷ event_list) [] e past lawful split = let may = lawful.0 in grind arith
+splits_from May (x ∷ event_list) (l ∷ later) e past lawful split = splits_from May event_list later e past lawful.1 (cc (split))
 
 -- a history in which each event may follow what was before it is lawful
-pub from_splits : {E : Type 0} (May : List E → E → Type 0) (history : List E)
-    → ((later : List E) (e : E) (past : List E) → history ≡ later ++ (e ∷ past) → May past e) → IsLawful May history
+pub from_splits : {E : Type 0} (May : List E → E → Type 0) (event_list : List E)
+    → ((later : List E) (e : E) (past : List E) → event_list ≡ later ++ (e ∷ past) → May past e) → IsLawful May event_list
 from_splits May [] splits = tt
-from_splits May (x ∷ history) splits =
-    (splits [] x history refl, from_splits May history (λ later e past split. splits (x ∷ later) e past (ap (λ h. x ∷ h) split)))
+from_splits May (x ∷ event_list) splits =
+    (splits [] x event_list refl, from_splits May event_list (λ later e past split. splits (x ∷ later) e past (ap (λ h. x ∷ h) split)))
 
 -- a split of a log, reversed
 turned : {E : Type 0} (before : List E) (e : E) (later : List E) → reverse (before ++ (e ∷ later)) ≡ reverse later ++ (e ∷ reverse before)

@@ -4,7 +4,7 @@ use Rattle.std.proofs.Common.{◌≡◌, ℕ, ◌+◌, ◌%◌, ◌^◌, ◌<◌
 use Rattle.std.proofs.lemmas.Bool.{eqb-true, eqb-false, cond_both, cases_Bool, Decides.nat_tests}
 use Rattle.event_log.specs.declared.{ids.{CpuId.CpuId, LockId.LockId, TheConstants.CPUS}, grants.GrantEvent.{GrantEvent, TheVariants.{Take, Peek, Give}}}
 use Rattle.event_log.specs.{History.same_lock, WordsLog.Holding, Grants.{tickets, grant_lock_phase, ticket_in, after_give, grant_word, MayFollowGrants}}
-use Rattle.event_log.specs.{Grants.{IsLegalGrants, act_of_grant, acts_of_grants, WordFits}, Actions.{phase, spot_of, takes, gives, MayAct, AreLegal}}
+use Rattle.event_log.specs.{Grants.{IsLegalGrants, act_of_grant, acts_of_grants, WordFits}, Actions.{phase, ticket_index_of, takes, gives, MayAct, AreLegal}}
 use Rattle.event_log.proofs.{Same.{same_cpu_true, same_lock_self, same_lock_true}, Exclusion.{is_at, line_at, one_holds, spot_is_near}, Observed.phase_of}
 use Rattle.event_log.proofs.Observed.{TicketOf, eqb_same}
 
@@ -20,7 +20,7 @@ takes_grants name lock (e ∷ past) = grind (arith, takes_grants name lock past)
 
 -- in a legal log each ticket is the ticket index modulo 2^64
 pub grant_ticket_at : {M N : Type 0} (name : M → N) (log : List (GrantEvent M)) → IsLegalGrants log → (c : CpuId)
-    → TicketOf (grant_lock_phase c log) (spot_of c (acts_of_grants name log))
+    → TicketOf (grant_lock_phase c log) (ticket_index_of c (acts_of_grants name log))
 grant_ticket_at name [] legal c = tt
 grant_ticket_at name (Take cpu lock ticket ∷ past) legal c = grind (arith, same_cpu_true, takes_grants name lock past, grant_ticket_at name past legal.1 c)
 grant_ticket_at name (Peek cpu lock ticket read ∷ past) legal c = grind (arith, same_cpu_true, grant_ticket_at name past legal.1 c)
@@ -53,18 +53,20 @@ fits_there word given ticket held within is there fits = record {
   unwritten = λ lt. fits.unwritten (omega arith);
 }
 
-latest_is_served : (given spot ticket word held k : ℕ) → given ≤ spot → spot < given + CPUS → ticket ≡ spot % 2 ^ 64 → word ≡ ticket % CPUS
-    → k ≤ given → given < k + CPUS → k % CPUS ≡ word → held ≡ (k + 1) % 2 ^ 64 → held ≡ (ticket + 1) % 2 ^ 64 → given ≡ spot
-latest_is_served given spot ticket word held k ahead close is at le lt same holds reads = omega arith
+latest_is_served : (given ticket_index ticket word held k : ℕ) → given ≤ ticket_index → ticket_index < given + CPUS → ticket ≡ ticket_index % 2 ^ 64
+    → word ≡ ticket % CPUS
+    → k ≤ given → given < k + CPUS → k % CPUS ≡ word → held ≡ (k + 1) % 2 ^ 64 → held ≡ (ticket + 1) % 2 ^ 64 → given ≡ ticket_index
+latest_is_served given ticket_index ticket word held k ahead close is at le lt same holds reads = omega arith
 
-served_is_latest : (given spot ticket word held k : ℕ) → given ≡ spot → ticket ≡ spot % 2 ^ 64 → word ≡ ticket % CPUS
+served_is_latest : (given ticket_index ticket word held k : ℕ) → given ≡ ticket_index → ticket ≡ ticket_index % 2 ^ 64 → word ≡ ticket % CPUS
     → k ≤ given → given < k + CPUS → k % CPUS ≡ word → held ≡ (k + 1) % 2 ^ 64 → held ≡ (ticket + 1) % 2 ^ 64
-served_is_latest given spot ticket word held k served is at le lt same holds = omega arith
+served_is_latest given ticket_index ticket word held k served is at le lt same holds = omega arith
 
 -- a waiter near the head of the queue reads its ticket index plus 1 exactly if it is served
-pub served_exactly : (given spot ticket word held : ℕ) → given ≤ spot → spot < given + CPUS → ticket ≡ spot % 2 ^ 64 → word ≡ ticket % CPUS
-    → WordFits word given held → (held == (ticket + 1) % 2 ^ 64) ≡ (given == spot)
-served_exactly given spot ticket word held ahead close is at fits = grind (arith, eqb_same, within_or_past, latest_is_served, served_is_latest)
+pub served_exactly : (given ticket_index ticket word held : ℕ) → given ≤ ticket_index → ticket_index < given + CPUS → ticket ≡ ticket_index % 2 ^ 64
+    → word ≡ ticket % CPUS
+    → WordFits word given held → (held == (ticket + 1) % 2 ^ 64) ≡ (given == ticket_index)
+served_exactly given ticket_index ticket word held ahead close is at fits = grind (arith, eqb_same, within_or_past, latest_is_served, served_is_latest)
 
 pub fits_after : (word given ticket held : ℕ) → word < CPUS → ticket ≡ given % 2 ^ 64 → WordFits word given held
     → WordFits word (given + 1) (after_give ticket word held)
@@ -107,7 +109,7 @@ legal_grant name (Take cpu lock ticket) past may legal acts = (may.0, phase_gran
 legal_grant name (Peek cpu lock ticket read) past may legal acts =
     let waits = phase_grants name cpu past ∙ ap phase_of may.0 in
     let close = spot_is_near (acts_of_grants name past) acts cpu lock (ap (is_at lock) waits ∙ same_lock_self lock) in
-    let has = subst (λ s. TicketOf s (spot_of cpu (acts_of_grants name past))) may.0 (grant_ticket_at name past legal cpu) in
+    let has = subst (λ s. TicketOf s (ticket_index_of cpu (acts_of_grants name past))) may.0 (grant_ticket_at name past legal cpu) in
     let fits = words_fit name lock (ticket % CPUS) (omega arith) past legal acts in
     (waits, ap (λ r. r == (ticket + 1) % 2 ^ 64) may.1 ∙ served_exactly _ _ ticket _ _ close.0 close.1 has refl fits)
 legal_grant name (Give cpu lock mark) past may legal acts = phase_grants name cpu past ∙ ap phase_of may.1
@@ -118,9 +120,9 @@ legal_grants name [] legal = tt
 legal_grants name (e ∷ past) legal = let acts = legal_grants name past legal.1 in (legal_grant name e past legal.0 legal.1 acts, acts)
 
 -- mutual exclusion: two CPUs are never inside one lock
-pub one_inside_grants : {M : Type 0} (log : List (GrantEvent M)) → IsLegalGrants log → (a b : CpuId) (lock : LockId) (s t : ℕ)
+pub mutual_exclusion_grants : {M : Type 0} (log : List (GrantEvent M)) → IsLegalGrants log → (a b : CpuId) (lock : LockId) (s t : ℕ)
     → grant_lock_phase a log ≡ Holding lock s → grant_lock_phase b log ≡ Holding lock t → a ≡ b
-one_inside_grants {M = M} log legal a b lock s t first second =
+mutual_exclusion_grants {M = M} log legal a b lock s t first second =
     let name : M → M = λ m. m in
     one_holds (acts_of_grants name log) (legal_grants name log legal) a b lock
     (phase_grants name a log ∙ ap phase_of first) (phase_grants name b log ∙ ap phase_of second)

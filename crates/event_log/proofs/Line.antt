@@ -53,36 +53,39 @@ not_same d k differs = grind (arith, eqb-true)
 -- The queue at a lock: of `taken` ticket indices `given` were served. Each CPU in the queue has one
 -- of the others, no two have the same, and as many indices are left as there are CPUs. The CPU that
 -- holds the lock has the ticket index that is served.
-pub record Line (taken given : ℕ) (stands holds : CpuId → Bool) (spot : CpuId → ℕ) : Type 0 where
+pub record Line (taken given : ℕ) (stands holds : CpuId → Bool) (ticket_index : CpuId → ℕ) : Type 0 where
   pub balance : taken ≡ given + crowd stands CPUS
   pub known : (c : CpuId) → stands c ≡ true → c.0 < CPUS
-  pub ahead : (c : CpuId) → stands c ≡ true → given ≤ spot c
-  pub behind : (c : CpuId) → stands c ≡ true → spot c < taken
-  pub apart : (c d : CpuId) → stands c ≡ true → stands d ≡ true → spot c ≡ spot d → c ≡ d
+  pub ahead : (c : CpuId) → stands c ≡ true → given ≤ ticket_index c
+  pub behind : (c : CpuId) → stands c ≡ true → ticket_index c < taken
+  pub apart : (c d : CpuId) → stands c ≡ true → stands d ≡ true → ticket_index c ≡ ticket_index d → c ≡ d
   pub inside : (c : CpuId) → holds c ≡ true → stands c ≡ true
-  pub first : (c : CpuId) → holds c ≡ true → spot c ≡ given
+  pub first : (c : CpuId) → holds c ≡ true → ticket_index c ≡ given
 
-module _ {taken given : ℕ} {stands holds stands' holds' : CpuId → Bool} {spot spot' : CpuId → ℕ} (line : Line taken given stands holds spot) (d : CpuId)
-    (others : (c : CpuId) → same_cpu d c ≡ false → (stands' c ≡ stands c) × (holds' c ≡ holds c) × (spot' c ≡ spot c)) where
+module _ {taken given : ℕ} {stands holds stands' holds' : CpuId → Bool} {ticket_index ticket_index' : CpuId → ℕ}
+    (line : Line taken given stands holds ticket_index) (d : CpuId)
+    (others : (c : CpuId) → same_cpu d c ≡ false → (stands' c ≡ stands c) × (holds' c ≡ holds c) × (ticket_index' c ≡ ticket_index c)) where
   -- each CPU is d, or nothing changes for it
-  d_or_same : (c : CpuId) → (d ≡ c) ⊎ ((stands' c ≡ stands c) × (holds' c ≡ holds c) × (spot' c ≡ spot c))
+  d_or_same : (c : CpuId) → (d ≡ c) ⊎ ((stands' c ≡ stands c) × (holds' c ≡ holds c) × (ticket_index' c ≡ ticket_index c))
   d_or_same c = elim (cases_Bool (same_cpu d c)) [ inl same ↦ inl (same_cpu_true d c same) | inr other ↦ inr (others c other) ]
 
   -- no CPU joins or leaves; d may enter if its ticket index is served
-  pub line_stays : stands' d ≡ stands d → (stands d ≡ true → spot' d ≡ spot d) → (holds' d ≡ true → (stands d ≡ true) × (spot d ≡ given))
-      → Line taken given stands' holds' spot'
+  pub line_stays : stands' d ≡ stands d → (stands d ≡ true → ticket_index' d ≡ ticket_index d)
+      → (holds' d ≡ true → (stands d ≡ true) × (ticket_index d ≡ given))
+      → Line taken given stands' holds' ticket_index'
   line_stays same still entered =
       let alike = crowd_same stands' stands CPUS (λ c. grind (arith, d_or_same c)) in
       grind (arith, d_or_same, line.known, line.ahead, line.behind, line.apart, line.inside, line.first)
 
   -- d joins: it takes the ticket index after all others
-  pub line_joined : d.0 < CPUS → stands d ≡ false → stands' d ≡ true → holds' d ≡ false → spot' d ≡ taken → Line (taken + 1) given stands' holds' spot'
+  pub line_joined : d.0 < CPUS → stands d ≡ false → stands' d ≡ true → holds' d ≡ false → ticket_index' d ≡ taken
+      → Line (taken + 1) given stands' holds' ticket_index'
   line_joined known was_not is not_yet last =
       let grown = crowd_more stands stands' CPUS d.0 known was_not is (λ k differs. (others (cpu_numbered k) (not_same d k differs)).0) in
       grind (arith, d_or_same, line.known, line.ahead, line.behind, line.apart, line.inside, line.first)
 
   -- d, which holds the lock, leaves
-  pub line_left : holds d ≡ true → stands' d ≡ false → holds' d ≡ false → Line taken (given + 1) stands' holds' spot'
+  pub line_left : holds d ≡ true → stands' d ≡ false → holds' d ≡ false → Line taken (given + 1) stands' holds' ticket_index'
   line_left held gone gives =
       let stood = line.inside d held in
       let served = line.first d held in

@@ -11,9 +11,9 @@ phase_of (Holding lock ticket) = Holds lock
 
 -- a ticket is the ticket index modulo 2^64
 abbrev pub TicketOf : LockPhase → ℕ → Type 0
-TicketOf Idle spot = Unit {0}
-TicketOf (Waiting lock ticket) spot = ticket ≡ spot % 2 ^ 64
-TicketOf (Holding lock ticket) spot = ticket ≡ spot % 2 ^ 64
+TicketOf Idle ticket_index = Unit {0}
+TicketOf (Waiting lock ticket) ticket_index = ticket ≡ ticket_index % 2 ^ 64
+TicketOf (Holding lock ticket) ticket_index = ticket ≡ ticket_index % 2 ^ 64
 
 -- tests that say the same of two pairs of numbers agree
 pub eqb_same : (a b c d : ℕ) → (a ≡ b → c ≡ d) → (c ≡ d → a ≡ b) → (a == b) ≡ (c == d)

@@ -2,8 +2,8 @@
 -- overtake the first CPU.
 use Rattle.std.proofs.Common.{◌≡◌, ℕ, ◌<◌, ◌≤◌, Bool, true, false, List, [], ◌∷◌, ◌++◌, if◌then◌else◌, refl, ap, sym, subst, ◌∙◌, arith}
 use Rattle.event_log.specs.{declared.{ids.{CpuId.CpuId, LockId.LockId}, events.Event.{Event, TheVariants.Draw}}, History.{same_cpu, own_events}}
-use Rattle.event_log.specs.{WordsLog.{cpu_of_event, frees, IsLegalWords}, Actions.{Action, Take, Try, Give, phase, phase_after, cpu_of_action, spot_of, takes}}
-use Rattle.event_log.{specs.{Actions.{gives, MayAct, AreLegal, acts_of}, Laws.{OnlyTries, OnlyLooks}}, proofs.Same.{same_cpu_self, same_cpu_true}}
+use Rattle.event_log.specs.{WordsLog.{cpu_of_event, frees, IsLegalWords}, Actions.{Action, Take, Try, Give, phase, phase_after, cpu_of_action, ticket_index_of}}
+use Rattle.event_log.{specs.{Actions.{takes, gives, MayAct, AreLegal, acts_of}, Laws.{OnlyTries, OnlyLooks}}, proofs.Same.{same_cpu_self, same_cpu_true}}
 use Rattle.event_log.proofs.{Same.{same_lock_self, same_lock_true}, Exclusion.{is_at, at_either, phase_own, phase_other, spot_other, line_at}}
 use Rattle.event_log.proofs.{Tickets.{cpu_of_action_is, gives_acts, legal_acts}, Foreign.acts_of-append}
 
@@ -23,9 +23,9 @@ module _ {N : Type 0} (lock : LockId) (cpu other : CpuId) (first : ℕ) (differ 
   -- after it in the queue
   pub record Meanwhile (between log : List (Action N)) : Type 0 where
     pub stands : is_at lock (phase cpu log) ≡ true
-    pub spot : spot_of cpu log ≡ first
+    pub ticket_index : ticket_index_of cpu log ≡ first
     once : gives lock (own_events cpu_of_action other between) ≤ 1
-    behind : 1 ≤ gives lock (own_events cpu_of_action other between) → is_at lock (phase other log) ≡ true → first < spot_of other log
+    behind : 1 ≤ gives lock (own_events cpu_of_action other between) → is_at lock (phase other log) ≡ true → first < ticket_index_of other log
 
   -- an action of a third CPU
   by_third : (a : Action N) (between log : List (Action N)) → Meanwhile between log → same_cpu (cpu_of_action a) cpu ≡ false

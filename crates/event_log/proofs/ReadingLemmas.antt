@@ -27,7 +27,7 @@ module _ {X A B E : Type 0} (view : X → A) (read : ℕ → A → Result B E) w
 
 -- the same if a part is seen as something, or is of another kind
 abbrev pub with_front : {B : Type 0} → List B → Option (List B) → Option (List B)
-with_front front seen = option_map (λ rest. front ++ rest) seen
+with_front front history = option_map (λ rest. front ++ rest) history
 
 abbrev pub left_as : {X A B : Type 0} → (X → A) → (A → Option B) → List X → ℕ → Option (List B)
 left_as view kind xs i = all_as kind (map view (drop i xs))

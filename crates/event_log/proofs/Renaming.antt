@@ -1,7 +1,7 @@
 -- Actions under other names: only the names of the sections change.
 use Rattle.std.proofs.Common.{arith, ◌≡◌, List, [], ◌∷◌, ◌==◌, if◌then◌else◌, map, refl, sym, ◌∙◌}
 use Rattle.event_log.specs.{declared.ids.{CpuId.CpuId, LockId.LockId}, History.{same_cpu, AreOthers}, Actions.{Action, Take, Try, Give, Phase, Rests, Waits}}
-use Rattle.event_log.specs.Actions.{Holds, phase, cpu_of_action, spot_of, takes, gives, MayAct, AreLegal, action_in, next_action, renamed}
+use Rattle.event_log.specs.Actions.{Holds, phase, cpu_of_action, ticket_index_of, takes, gives, MayAct, AreLegal, action_in, next_action, renamed}
 use Rattle.event_log.specs.Sections.{renamed_section, sections_in}
 
 module _ {N L : Type 0} (f : N → L) where
@@ -17,7 +17,7 @@ module _ {N L : Type 0} (f : N → L) where
   gives_renamed lock [] = refl
   gives_renamed lock (a ∷ past) = grind (arith, gives_renamed lock past)
 
-  pub spot_renamed : (c : CpuId) (past : List (Action N)) → spot_of c (map (renamed f) past) ≡ spot_of c past
+  pub spot_renamed : (c : CpuId) (past : List (Action N)) → ticket_index_of c (map (renamed f) past) ≡ ticket_index_of c past
   spot_renamed c [] = refl
   spot_renamed c (Take cpu lock ∷ past) = λ i. if same_cpu cpu c then takes_renamed lock past i else spot_renamed c past i
   spot_renamed c (Try cpu lock hit ∷ past) = spot_renamed c past

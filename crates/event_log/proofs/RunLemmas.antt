@@ -1,7 +1,7 @@
 -- How a run grows, and what its entries are by their index.
 use Rattle.std.proofs.Common.{◌≡◌, ℕ, zero, suc, ◌+◌, ◌==◌, Bool, ◌&&◌, if◌then◌else◌, List, [], ◌∷◌, ◌++◌, take, Some, refl, sym, ap, ◌∙◌, append_assoc, arith}
 use Rattle.{std.{proofs.lemmas.{Bool.eq-eqb, List.{append-nil, Sums.{sum_by-cons, sum_by_push}}}, specs.Prelude.slice_get}, event_log.specs.Messages.Message}
-use Rattle.event_log.specs.{declared.entries.{Entry.Entry, Kind.Kind}, Buffers.{empty_buffers, items_of}, Runs.{IsNext, IsRunFrom, IsRun, after_entry}}
+use Rattle.event_log.specs.{declared.entries.{Entry.Entry, Kind.Kind}, Buffers.{empty_buffers, items_of}, Runs.{IsNext, IsRunFrom, IsLegalHistory, after_entry}}
 use Rattle.event_log.specs.{Runs.{contents_from, count_of, count_of_kind, kind_eq}, Traces.HasOpOrderFrom}
 
 -- one entry more
@@ -11,12 +11,12 @@ run_from_more caps earlier contents [] left e same next = (rw (same, ← append-
 run_from_more caps earlier contents (x ∷ es) left e run next =
     (run.0, run_from_more caps (earlier ++ x ∷ []) (after_entry contents x) es left e run.1 (rw append_assoc next))
 
-pub run_more : (caps : List ℕ) (es : List Entry) (left : List (List Message)) (e : Entry) → IsRun caps es left → IsNext caps es left e
-    → IsRun caps (es ++ e ∷ []) (after_entry left e)
+pub run_more : (caps : List ℕ) (es : List Entry) (left : List (List Message)) (e : Entry) → IsLegalHistory caps es left → IsNext caps es left e
+    → IsLegalHistory caps (es ++ e ∷ []) (after_entry left e)
 run_more caps es left e run next = run_from_more caps [] (empty_buffers caps) es left e run next
 
 -- no entry is a run that leaves the buffers empty
-pub run_none : (caps : List ℕ) → IsRun caps [] (empty_buffers caps)
+pub run_none : (caps : List ℕ) → IsLegalHistory caps [] (empty_buffers caps)
 run_none caps = refl
 
 -- what a run leaves

@@ -3,7 +3,7 @@
 use Rattle.std.proofs.Common.{arith, length-set, ◌≡◌, ℕ, ◌==◌, Bool, if◌then◌else◌, List, [], ◌∷◌, ◌++◌, length, refl, sym, ap, ◌∙◌, append_assoc}
 use Rattle.{std.proofs.lemmas.{Bool.{eqb-true, eqb-false}, List.{get_or-set_same, get_or-set_other, append-nil, length-map}}, event_log.specs.Messages.Message}
 use Rattle.event_log.specs.{declared.entries.{Entry.Entry, Kind.Kind}, Buffers.{empty_buffers, items_of, IsAllowedEffect, after_effect}, Runs.IsNext}
-use Rattle.event_log.specs.{Runs.{IsRunFrom, IsRun, after_entry}, Streams.{put_by, taken_by, sent_to, taken_from, IsFirstInFirstOut}}
+use Rattle.event_log.specs.{Runs.{IsRunFrom, IsLegalHistory, after_entry}, Streams.{put_by, taken_by, sent_to, taken_from, IsFirstInFirstOut}}
 use Rattle.event_log.proofs.RunLemmas.{items_none}
 
 -- one effect at its buffer
@@ -30,7 +30,7 @@ stream_from caps earlier contents (e ∷ es) left many run b =
     (e.buffer.0 == b) refl
 
 -- a whole run
-pub taken_put : (caps : List ℕ) (es : List Entry) (left : List (List Message)) → IsRun caps es left → IsFirstInFirstOut es left
+pub taken_put : (caps : List ℕ) (es : List Entry) (left : List (List Message)) → IsLegalHistory caps es left → IsFirstInFirstOut es left
 taken_put caps es left run b =
     ap (λ items. items ++ sent_to b es) (sym (items_none caps b))
     ∙ stream_from caps [] (empty_buffers caps) es left (length-map {B = List Message} caps (λ n. [])) run b

@@ -3,8 +3,8 @@
 use Rattle.std.proofs.Common.{◌≡◌, ℕ, ◌+◌, ◌%◌, ◌^◌, ◌<◌, ◌≤◌, false, List, [], ◌∷◌, ◌==◌, if◌then◌else◌, refl, ap, subst, ◌∙◌, arith}
 use Rattle.event_log.specs.declared.{ids.{CpuId.CpuId, LockId.LockId, TheConstants.CPUS}, events.Event.{Event, TheVariants.{Draw, Look, Free}}}
 use Rattle.event_log.specs.{History.same_cpu, WordsLog.{cpu_of_event, draws, frees, Holding, left_by, lock_phase, MayFollow, IsLegalWords}, Actions.phase}
-use Rattle.event_log.{specs.Actions.{cpu_of_action, spot_of, takes, gives, MayAct, AreLegal, act_of, acts_of}, proofs.Same.{same_cpu_true, same_lock_self}}
-use Rattle.event_log.proofs.{Exclusion.{is_at, one_holds, spot_is_near}, Observed.eqb_same}
+use Rattle.event_log.{specs.Actions.{cpu_of_action, ticket_index_of, takes, gives, MayAct, AreLegal, act_of, acts_of}, proofs.Same.same_cpu_true}
+use Rattle.event_log.proofs.{Same.same_lock_self, Exclusion.{is_at, one_holds, spot_is_near}, Observed.eqb_same}
 pub use Rattle.event_log.proofs.Observed.{phase_of, TicketOf}
 
 pub cpu_of_action_is : {M N : Type 0} (name : M → N) (e : Event M) → cpu_of_action (act_of name e) ≡ cpu_of_event e
@@ -32,7 +32,7 @@ lock_phase_other e past c other = ap (λ b. if b then left_by e else lock_phase 
 
 -- in a legal log each ticket is the ticket index modulo 2^64
 pub ticket_at : {M N : Type 0} (name : M → N) (log : List (Event M)) → IsLegalWords log → (c : CpuId)
-    → TicketOf (lock_phase c log) (spot_of c (acts_of name log))
+    → TicketOf (lock_phase c log) (ticket_index_of c (acts_of name log))
 ticket_at name [] legal c = tt
 ticket_at name (Draw cpu lock ticket ∷ past) legal c = grind (arith, same_cpu_true, takes_acts name lock past, ticket_at name past legal.1 c)
 ticket_at name (Look cpu lock ticket read ∷ past) legal c = grind (arith, same_cpu_true, ticket_at name past legal.1 c)
@@ -42,13 +42,14 @@ ticket_at name (Free cpu lock mark ∷ past) legal c = grind (arith, ticket_at n
 pub next_rests : (count n : ℕ) → n ≡ count % 2 ^ 64 → (n + 1) % 2 ^ 64 ≡ (count + 1) % 2 ^ 64
 next_rests count n is = omega arith
 
-near_rests : (given spot : ℕ) → given ≤ spot → spot < given + CPUS → given % 2 ^ 64 ≡ spot % 2 ^ 64 → given ≡ spot
-near_rests given spot ahead close same = omega arith
+near_rests : (given ticket_index : ℕ) → given ≤ ticket_index → ticket_index < given + CPUS → given % 2 ^ 64 ≡ ticket_index % 2 ^ 64 → given ≡ ticket_index
+near_rests given ticket_index ahead close same = omega arith
 
 -- among ticket indices so near one another, equal numbers modulo 2^64 are equal indices
-pub same_rests : (given spot read ticket : ℕ) → given ≤ spot → spot < given + CPUS → read ≡ given % 2 ^ 64 → ticket ≡ spot % 2 ^ 64
-    → (read == ticket) ≡ (given == spot)
-same_rests given spot read ticket ahead close reads has = grind (arith, eqb_same, near_rests)
+pub same_rests : (given ticket_index read ticket : ℕ) → given ≤ ticket_index → ticket_index < given + CPUS → read ≡ given % 2 ^ 64
+    → ticket ≡ ticket_index % 2 ^ 64
+    → (read == ticket) ≡ (given == ticket_index)
+same_rests given ticket_index read ticket ahead close reads has = grind (arith, eqb_same, near_rests)
 
 legal_act : {M N : Type 0} (name : M → N) (e : Event M) (past : List (Event M)) → MayFollow past e → IsLegalWords past → AreLegal (acts_of name past)
     → MayAct (acts_of name past) (act_of name e)
@@ -56,7 +57,7 @@ legal_act name (Draw cpu lock ticket) past may legal acts = (may.0, phase_acts n
 legal_act name (Look cpu lock ticket read) past may legal acts =
     let waits = phase_acts name cpu past ∙ ap phase_of may.0 in
     let close = spot_is_near (acts_of name past) acts cpu lock (ap (is_at lock) waits ∙ same_lock_self lock) in
-    let has = subst (λ s. TicketOf s (spot_of cpu (acts_of name past))) may.0 (ticket_at name past legal cpu) in
+    let has = subst (λ s. TicketOf s (ticket_index_of cpu (acts_of name past))) may.0 (ticket_at name past legal cpu) in
     (waits, grind (arith, same_rests, gives_acts name lock past))
 legal_act name (Free cpu lock mark) past may legal acts = phase_acts name cpu past ∙ ap phase_of may.1
 
@@ -66,8 +67,8 @@ legal_acts name [] legal = tt
 legal_acts name (e ∷ past) legal = let acts = legal_acts name past legal.1 in (legal_act name e past legal.0 legal.1 acts, acts)
 
 -- mutual exclusion: two CPUs are never inside one lock
-pub one_inside : {M : Type 0} (log : List (Event M)) → IsLegalWords log → (a b : CpuId) (lock : LockId) (s t : ℕ)
+pub mutual_exclusion : {M : Type 0} (log : List (Event M)) → IsLegalWords log → (a b : CpuId) (lock : LockId) (s t : ℕ)
     → lock_phase a log ≡ Holding lock s → lock_phase b log ≡ Holding lock t → a ≡ b
-one_inside {M = M} log legal a b lock s t first second =
+mutual_exclusion {M = M} log legal a b lock s t first second =
     let name : M → M = λ m. m in
     one_holds (acts_of name log) (legal_acts name log legal) a b lock (phase_acts name a log ∙ ap phase_of first) (phase_acts name b log ∙ ap phase_of second)

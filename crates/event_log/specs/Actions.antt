@@ -63,11 +63,12 @@ phase cpu [] = Rests
 phase cpu (a ∷ past) = if same_cpu (cpu_of_action a) cpu then phase_after a else phase cpu past
 
 -- the ticket index of a CPU: how often the lock had been requested before the CPU's last request
-abbrev pub spot_of : {N : Type 0} → CpuId → List (Action N) → ℕ
-spot_of cpu [] = 0
-spot_of cpu (Take by lock ∷ past) = if same_cpu by cpu then takes lock past else spot_of cpu past
-spot_of cpu (Try by lock hit ∷ past) = spot_of cpu past
-spot_of cpu (Give by lock name ∷ past) = spot_of cpu past
+abbrev pub ticket_index_of : {N : Type 0} → CpuId → List (Action N) → ℕ
+ticket_index_of cpu [] = 0
+ticket_index_of cpu (Take by lock ∷ past) =
+    if same_cpu by cpu then takes lock past else ticket_index_of cpu past
+ticket_index_of cpu (Try by lock hit ∷ past) = ticket_index_of cpu past
+ticket_index_of cpu (Give by lock name ∷ past) = ticket_index_of cpu past
 
 -- the action may follow this past. A CPU of the machine requests a lock while it rests. While it
 -- waits it polls, and enters exactly if the lock has been released as often as its ticket index
@@ -75,7 +76,7 @@ spot_of cpu (Give by lock name ∷ past) = spot_of cpu past
 abbrev pub MayAct : {N : Type 0} → List (Action N) → Action N → Type 0
 MayAct past (Take cpu lock) = (cpu.0 < CPUS) × (phase cpu past ≡ Rests)
 MayAct past (Try cpu lock hit) =
-    (phase cpu past ≡ Waits lock) × (hit ≡ (gives lock past == spot_of cpu past))
+    (phase cpu past ≡ Waits lock) × (hit ≡ (gives lock past == ticket_index_of cpu past))
 MayAct past (Give cpu lock name) = phase cpu past ≡ Holds lock
 
 -- a legal list of actions
@@ -93,7 +94,7 @@ AreFree actions = (lock : LockId) → IsFree lock actions
 -- the action that is due to a CPU in this phase: at this lock, and its section will have this name
 abbrev pub action_in : {N : Type 0} → CpuId → LockId → N → List (Action N) → Phase → Action N
 action_in cpu lock name past Rests = Take cpu lock
-action_in cpu lock name past (Waits at) = Try cpu at (gives at past == spot_of cpu past)
+action_in cpu lock name past (Waits at) = Try cpu at (gives at past == ticket_index_of cpu past)
 action_in cpu lock name past (Holds at) = Give cpu at name
 
 -- the next action of a CPU, according to the past

@@ -13,8 +13,8 @@ abbrev pub IsLegalLog : {M : Type 0} → List (Event M) → Type 0
 IsLegalLog log = IsLawfulLog MayFollow log
 
 -- both forms say the same of every words log
-abbrev pub BothFormsAgree : Type 0 → Type 0
-BothFormsAgree M = (log : List (Event M)) → IsLegalLog log ↔ IsLegalWords (reverse log)
+abbrev pub LogOrdersAgree : Type 0 → Type 0
+LogOrdersAgree M = (log : List (Event M)) → IsLegalLog log ↔ IsLegalWords (reverse log)
 
 -- a log with one more event is legal exactly if it was, and the event may follow it
 abbrev pub LegalLogsGrow : Type 0 → Type 0

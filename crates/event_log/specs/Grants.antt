@@ -86,13 +86,13 @@ acts_of_grants name log = map (act_of_grant name) log
 
 -- simulation: a legal log of grant words is a legal list of actions. A word says exactly which
 -- ticket index is served
-abbrev pub GrantsTellSpots : Type 0 → Type 0
-GrantsTellSpots M =
+abbrev pub GrantsTellIndices : Type 0 → Type 0
+GrantsTellIndices M =
     (log : List (GrantEvent M)) → IsLegalGrants log → AreLegal (acts_of_grants (λ (m : M). m) log)
 
 -- mutual exclusion: two CPUs are never inside one lock, whatever their tickets are
-abbrev pub OneInsideGrants : Type 0 → Type 0
-OneInsideGrants M =
+abbrev pub MutualExclusionGrants : Type 0 → Type 0
+MutualExclusionGrants M =
     (log : List (GrantEvent M)) → IsLegalGrants log → (a b : CpuId) (lock : LockId) (s t : ℕ)
     → grant_lock_phase a log ≡ Holding lock s → grant_lock_phase b log ≡ Holding lock t → a ≡ b
 

@@ -13,14 +13,15 @@ OneHolds N = (actions : List (Action N)) → AreLegal actions → (a b : CpuId) 
     → phase a actions ≡ Holds lock → phase b actions ≡ Holds lock → a ≡ b
 
 -- mutual exclusion, for words logs: two CPUs are never inside one lock, whatever their tickets are
-abbrev pub OneInside : Type 0 → Type 0
-OneInside M = (log : List (Event M)) → IsLegalWords log → (a b : CpuId) (lock : LockId) (s t : ℕ)
+abbrev pub MutualExclusion : Type 0 → Type 0
+MutualExclusion M =
+    (log : List (Event M)) → IsLegalWords log → (a b : CpuId) (lock : LockId) (s t : ℕ)
     → lock_phase a log ≡ Holding lock s → lock_phase b log ≡ Holding lock t → a ≡ b
 
 -- simulation: a legal words log is a legal list of actions. Its tickets, modulo 2^64, determine the
 -- ticket indices
-abbrev pub TicketsTellSpots : Type 0 → Type 0
-TicketsTellSpots M =
+abbrev pub TicketsTellIndices : Type 0 → Type 0
+TicketsTellIndices M =
     (log : List (Event M)) → IsLegalWords log → AreLegal (acts_of (λ (m : M). m) log)
 
 -- the next three actions of a resting CPU at a free lock, without others between, are one section,
@@ -62,8 +63,8 @@ GivenOnceMeanwhile N = (past between : List (Action N)) (cpu other : CpuId) (loc
 
 -- bounded bypass: from a CPU's request on, while it only polls, the lock is released fewer than
 -- CPUS times
-abbrev pub WaitsForFew : Type 0 → Type 0
-WaitsForFew N = (past between : List (Action N)) (cpu : CpuId) (lock : LockId)
+abbrev pub BoundedBypass : Type 0 → Type 0
+BoundedBypass N = (past between : List (Action N)) (cpu : CpuId) (lock : LockId)
     → AreLegal (between ++ (Take cpu lock ∷ past))
     → OnlyTries (own_events cpu_of_action cpu between) → gives lock between < CPUS
 

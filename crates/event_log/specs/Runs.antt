@@ -83,5 +83,5 @@ IsRunFrom caps earlier contents (e ∷ es) left =
     × IsRunFrom caps (earlier ++ e ∷ []) (after_entry contents e) es left
 
 -- the entries are a legal sequential history from empty buffers on, which ends in what is left
-abbrev pub IsRun : List ℕ → List Entry → List (List Message) → Type 0
-IsRun caps es left = IsRunFrom caps [] (empty_buffers caps) es left
+abbrev pub IsLegalHistory : List ℕ → List Entry → List (List Message) → Type 0
+IsLegalHistory caps es left = IsRunFrom caps [] (empty_buffers caps) es left

@@ -3,7 +3,7 @@
 use Rattle.std.specs.Prelude.{◌≡◌, ℕ, ◌==◌, List, [], ◌∷◌, ◌++◌, if◌then◌else◌}
 use Rattle.event_log.specs.declared.entries.Kind.{Kind, TheVariants.{Send, Recv, Close, SendClosed}}
 use Rattle.event_log.specs.declared.entries.{Kind.TheVariants.RecvClosed, Entry.Entry}
-use Rattle.event_log.specs.{Messages.Message, Buffers.items_of, Runs.IsRun}
+use Rattle.event_log.specs.{Messages.Message, Buffers.items_of, Runs.IsLegalHistory}
 
 -- what an effect puts before the messages that are put later: a send its message, each other effect
 -- none
@@ -39,7 +39,7 @@ abbrev pub IsFirstInFirstOut : List Entry → List (List Message) → Type 0
 IsFirstInFirstOut es left = (b : ℕ) → sent_to b es ≡ taken_from b es ++ items_of left b
 
 -- this holds of every legal sequential history
-abbrev pub TakenIsPut : Type 0
-TakenIsPut =
-    (caps : List ℕ) (es : List Entry) (left : List (List Message)) → IsRun caps es left
+abbrev pub ReceivedWasSent : Type 0
+ReceivedWasSent =
+    (caps : List ℕ) (es : List Entry) (left : List (List Message)) → IsLegalHistory caps es left
     → IsFirstInFirstOut es left

@@ -1,13 +1,13 @@
 //! What holds of every legal log. Each law is the contract of a function that does nothing, so that
 //! the law is proved with the crate.
 
-ghost use Rattle.event_log.specs.{Forms.{BothFormsAgree, LegalLogsGrow}, Grants.{GrantsTellSpots, OneInsideGrants}, Laws.FreedOnceMeanwhile};
-ghost use Rattle.event_log.specs.Laws.{FreeWhereAllRest, GivenOnceMeanwhile, OneHolds, OneInside, ThreeAreOneSection, TicketsTellSpots, WaitsForFew};
+ghost use Rattle.event_log.specs.{Forms.{LogOrdersAgree, LegalLogsGrow}, Grants.{GrantsTellIndices, MutualExclusionGrants}, Laws.FreedOnceMeanwhile};
+ghost use Rattle.event_log.specs.Laws.{FreeWhereAllRest, GivenOnceMeanwhile, OneHolds, MutualExclusion, ThreeAreOneSection, TicketsTellIndices, BoundedBypass};
 
 /// A words log, oldest first, is legal if each event may follow the events before it, however the
 /// log is split. The recursion on its history, newest first, says the same.
-pub fn both_forms_agree<M>()
-    ensures { BothFormsAgree M }
+pub fn log_orders_agree<M>()
+    ensures { LogOrdersAgree M }
 {}
 
 /// A words log grows, at its end, by exactly the events that may follow it, and every legal one has
@@ -25,15 +25,15 @@ pub fn one_holds<N>()
 /// Mutual exclusion: in a legal words log two CPUs are never inside one lock. This holds although
 /// its tickets are numbers modulo 2^64, because at most [`CPUS`](crate::CPUS) of them wait at a
 /// time.
-#[tactic(auto, using(crate::proofs::Tickets::one_inside))]
-pub fn one_inside<M>()
-    ensures { OneInside M }
+#[tactic(auto, using(crate::proofs::Tickets::mutual_exclusion))]
+pub fn mutual_exclusion<M>()
+    ensures { MutualExclusion M }
 {}
 
 /// Simulation: a legal words log is a legal list of actions. A poll succeeds exactly if its lock
 /// was freed as often as it had been drawn at before the CPU's draw.
-pub fn tickets_tell_spots<M>()
-    ensures { TicketsTellSpots M }
+pub fn tickets_tell_indices<M>()
+    ensures { TicketsTellIndices M }
 {}
 
 /// Three consecutive actions of a CPU at a free lock are exactly one section. It requests the lock,
@@ -59,8 +59,8 @@ pub fn given_once_meanwhile<N>()
 /// fewer than [`CPUS`](crate::CPUS) times. Fewer sections than that overtake it. This does not say
 /// that the CPU is ever served.
 #[tactic(auto, using(crate::proofs::Bypass::few_pass))]
-pub fn waits_for_few<N>()
-    ensures { WaitsForFew N }
+pub fn bounded_bypass<N>()
+    ensures { BoundedBypass N }
 {}
 
 /// Bounded bypass of a ticket lock, per CPU: from a CPU's draw on, while it only polls, no other
@@ -71,12 +71,12 @@ pub fn freed_once_meanwhile<M>()
 
 /// Simulation: a legal log of grant words is a legal list of actions. A poll succeeds exactly if
 /// its lock was released as often as tickets had been taken before the CPU's own.
-pub fn grants_tell_spots<M>()
-    ensures { GrantsTellSpots M }
+pub fn grants_tell_indices<M>()
+    ensures { GrantsTellIndices M }
 {}
 
 /// Mutual exclusion: in a legal log of grant words two CPUs are never inside one lock.
-#[tactic(auto, using(crate::proofs::GrantWords::one_inside_grants))]
-pub fn one_inside_grants<M>()
-    ensures { OneInsideGrants M }
+#[tactic(auto, using(crate::proofs::GrantWords::mutual_exclusion_grants))]
+pub fn mutual_exclusion_grants<M>()
+    ensures { MutualExclusionGrants M }
 {}

@@ -33,12 +33,12 @@ pub use events::Event;
 pub use grants::GrantEvent;
 pub use ids::{BUFFERS, BufId, CAPACITY, CPUS, CpuId, ENTRIES, LOCKS, LockId, THREADS, TRACE, Tid};
 pub use laws::{
-    both_forms_agree, free_where_all_rest, freed_once_meanwhile, given_once_meanwhile,
-    grants_tell_spots, legal_logs_grow, one_holds, one_inside, one_inside_grants,
-    three_are_one_section, tickets_tell_spots, waits_for_few,
+    bounded_bypass, free_where_all_rest, freed_once_meanwhile, given_once_meanwhile,
+    grants_tell_indices, legal_logs_grow, log_orders_agree, mutual_exclusion,
+    mutual_exclusion_grants, one_holds, three_are_one_section, tickets_tell_indices,
 };
 pub use logs::EventLog;
 pub use messages::{Msg, WORDS};
 pub use refusals::{LogFull, NoMemory};
 pub use rings::Ring;
-pub use runs::{run_by_index, run_grows, run_has_op_order, taken_is_put};
+pub use runs::{received_was_sent, run_by_index, run_grows, run_has_op_order};

@@ -2,16 +2,16 @@
 //! or a close is a single step. These are laws: there is nothing to execute.
 
 ghost use Rattle.std.specs.Prelude.{◌≡◌, ◌<◌, ◌++◌, ◌∷◌, ◌↔◌, ℕ, [], List, length, take, slice_get, Some};
-ghost use Rattle.event_log.specs.{Messages.Message, declared.entries.Entry.Entry as AnEntry, Runs.IsNext, Runs.IsRun, Runs.after_entry, Runs.contents_after};
-ghost use Rattle.event_log.specs.{Streams.TakenIsPut, Traces.HasOpOrder};
+ghost use Rattle.event_log.specs.{Messages.Message, declared.entries.Entry.Entry as AnEntry, Runs.{IsNext, IsLegalHistory, after_entry, contents_after}};
+ghost use Rattle.event_log.specs.{Streams.ReceivedWasSent, Traces.HasOpOrder};
 
 /// A law: a run with one more entry at its end, which may follow there, is a run, and ends in what
 /// that entry leaves.
 #[tactic(auto, using(crate::proofs::RunLemmas::run_more))]
 pub fn run_grows()
     ensures { (caps : List ℕ) (es : List AnEntry) (left : List (List Message)) (e : AnEntry)
-        → IsRun caps es left → IsNext caps es left e
-        → IsRun caps (es ++ e ∷ []) (after_entry left e) }
+        → IsLegalHistory caps es left → IsNext caps es left e
+        → IsLegalHistory caps (es ++ e ∷ []) (after_entry left e) }
 {}
 
 /// A law: entries are a run that ends in what is left exactly under two conditions. What is left is
@@ -20,26 +20,27 @@ pub fn run_grows()
 #[tactic(auto, using(crate::proofs::RunLemmas::run_from_next))]
 pub fn run_by_index()
     ensures runs { (caps : List ℕ) (es : List AnEntry) (left : List (List Message))
-        → IsRun caps es left
+        → IsLegalHistory caps es left
         → (left ≡ contents_after caps es)
         × ((k : ℕ) (e : AnEntry) → slice_get es k ≡ Some e
         → IsNext caps (take k es) (contents_after caps (take k es)) e) }
     ensures only { (caps : List ℕ) (es : List AnEntry)
         → ((k : ℕ) (e : AnEntry) → slice_get es k ≡ Some e
         → IsNext caps (take k es) (contents_after caps (take k es)) e)
-        → IsRun caps es (contents_after caps es) }
+        → IsLegalHistory caps es (contents_after caps es) }
 {}
 
 /// A law: in a run the op numbers of each buffer are 0, 1, 2 and so on.
 #[tactic(auto, using(crate::proofs::RunLemmas::op_order_from))]
 pub fn run_has_op_order()
-    ensures { (caps : List ℕ) (es : List AnEntry) (left : List (List Message)) → IsRun caps es left
+    ensures { (caps : List ℕ) (es : List AnEntry) (left : List (List Message))
+        → IsLegalHistory caps es left
         → HasOpOrder es }
 {}
 
 /// A law: in a run the messages sent to each buffer are, in order, those received from it, followed
 /// by those left. None is lost, duplicated or reordered.
 #[tactic(auto, using(crate::proofs::Streams::taken_put))]
-pub fn taken_is_put()
-    ensures { TakenIsPut }
+pub fn received_was_sent()
+    ensures { ReceivedWasSent }
 {}

@@ -3,9 +3,9 @@
 use Rattle.std.proofs.Common.{◌≡◌, ◌≢◌, Bool, true, false, List, Option, Some, ◌⊎◌, None, refl, ap, sym, subst, arith, length, IsSome, is_some, slice_set}
 use Rattle.std.proofs.{Common.{if◌then◌else◌, ◌∙◌, inl, inr, ◌++◌, option_map, option_to_list}, lemmas.{Bool.eqb-false, List.{get_or-set_other, length-set}}}
 use Rattle.{event_log.specs.declared.ids.{CpuId.CpuId, LockId.LockId, Tid.Tid, BufId.BufId}, layer_traits.specs.declared.buffer_edits.BufferEdit.BufferEdit}
-use Rattle.layer_traits.specs.declared.{buffer_edits.BufferOut.BufferOut, calls.{Call.Call, Reply.Reply, Effect.Effect}, call_states.CallState.CallState}
+use Rattle.layer_traits.specs.declared.{buffer_edits.BufferReply.BufferReply, calls.{Call.Call, Reply.Reply, Effect.Effect}, call_states.CallState.CallState}
 use Rattle.layer_traits.specs.declared.{call_states.Stage.{Stage, TheVariants.{Idle, Acquires}}, scheds.SchedCall.SchedCall, locked.Side.TheVariants.Senders}
-use Rattle.layer_traits.specs.declared.{locked.QOut.QOut, conditions.CvOut.CvOut, moves.WaitList.WaitList, queue_edits.QueueBlock.QueueBlock}
+use Rattle.layer_traits.specs.declared.{locked.QLockReply.QLockReply, conditions.CvReply.CvReply, moves.WaitList.WaitList, queue_edits.QueueBlock.QueueBlock}
 use Rattle.layer_traits.specs.Layers.BufferLaw.{call_state_of, going, Calling, MayGoOn, MayPollCall, begun, going_at, no_call, replied, Answered, Called}
 use Rattle.layer_traits.specs.Layers.{BufferLaw.{begun_at, buffer_of, entry_of, recorded, reply_of, buffering, left_recorded}, Conditions.CvCall, CvLaw.Waiting}
 use Rattle.layer_traits.specs.Layers.{QLockLaw.{slept_for, is_handed, LocksAgree}, Queues.{buffer_sections, moves_in}, QLocking.{wait_list_in, lock_after}}
@@ -21,11 +21,11 @@ use Rattle.layer_traits.specs.declared.scheds.SchedCall.TheVariants as sched
 -- the next section of the call of t may be polled; the call's effect is that with which the poll
 -- began, and the other threads are as they were then
 pub record IsGoing (homes : List CpuId) (O : LockId → Option BufferLock) (past : List BufferSection) (c : CpuId) (t : Tid) (call : Call)
-    (own0 own : Waiting BufferOut) (call_states0 call_states : List CallState) (under_way : Option (SchedCall (CvCall BufferEdit))) : Type 0 where
-  pub may : MayPollSection O past t call (going (call_state_of call_states t) call) own under_way
-  pub others : (u : Tid) → home_of homes u ≡ Some c → same_tid t u ≡ false → FitsAt O past own call_states u
-  pub sizes : Sizes own call_states
-  pub ended : own.lock.sleep.threads.ended ≡ own0.lock.sleep.threads.ended
+    (own0 local : Waiting BufferReply) (call_states0 call_states : List CallState) (under_way : Option (SchedCall (CvCall BufferEdit))) : Type 0 where
+  pub may : MayPollSection O past t call (going (call_state_of call_states t) call) local under_way
+  pub others : (u : Tid) → home_of homes u ≡ Some c → same_tid t u ≡ false → FitsAt O past local call_states u
+  pub sizes : Sizes local call_states
+  pub ended : local.lock.sleep.threads.ended ≡ own0.lock.sleep.threads.ended
   pub effect : (going (call_state_of call_states t) call).effect ≡ (going (call_state_of call_states0 t) call).effect
   pub apart : (u : Tid) → u.0 ≢ t.0 → call_state_of call_states u ≡ call_state_of call_states0 u
 
@@ -51,35 +51,38 @@ module _ (O : LockId → Option BufferLock) (past : List BufferSection) (t : Tid
       → CallStateFits O past t of slept waits call_state → MayPollCall call_state call
       → ((going call_state call).call ≡ Some call) × InCall O past t call slept waits (going call_state call).stage (going call_state call).position
       (going call_state call).effect
-  going_fits call_state slept waits None is fits may =
-      let same : going call_state call ≡ begun call = ap (λ stage. going_at stage call_state call) fits.stage_is in (
+  going_fits call_state slept waits None is coupled may =
+      let same : going call_state call ≡ begun call = ap (λ stage. going_at stage call_state call) coupled.stage_is in (
         may,
         subst (λ (x : CallState). InCall O past t call slept waits x.stage x.position x.effect) (sym same)
-            (begun_fits slept waits fits.stance fits.slept_none fits.waits_none),
+            (begun_fits slept waits coupled.stance coupled.slept_none coupled.waits_none),
       )
-  going_fits call_state slept waits (Some k) is fits may = grind arith
+  going_fits call_state slept waits (Some k) is coupled may = grind arith
 
 -- a call that continues has begun
-pub goes_called : (O : LockId → Option BufferLock) (past : List BufferSection) (t : Tid) (k : Call) (call_state : CallState) (own : Waiting BufferOut)
-    (w : Option (SchedCall (CvCall BufferEdit))) → SectionGoes O past t k call_state own w → called_at call_state.stage ≡ true
-goes_called O past t k call_state own w goes = grind arith
+pub goes_called : (O : LockId → Option BufferLock) (past : List BufferSection) (t : Tid) (k : Call) (call_state : CallState) (local : Waiting BufferReply)
+    (w : Option (SchedCall (CvCall BufferEdit))) → SectionGoes O past t k call_state local w → called_at call_state.stage ≡ true
+goes_called O past t k call_state local w goes = grind arith
 
 -- the first section poll of a poll
-pub first_may : (homes : List CpuId) (c : CpuId) (O : LockId → Option BufferLock) (past : List BufferSection) (own : Waiting BufferOut)
+pub first_may : (homes : List CpuId) (c : CpuId) (O : LockId → Option BufferLock) (past : List BufferSection) (local : Waiting BufferReply)
     (call_states : List CallState) (under_way : Option (SchedCall (CvCall BufferEdit))) (calling : Option Tid) (t : Tid) (call : Call)
-    → home_of homes t ≡ Some c → CallsFit homes c O past own call_states under_way calling → own.lock.sleep.threads.current ≡ Some t
-    → (under_way_at calling under_way ≡ None → own.lock.sleep.threads.hand ≡ None) → MayPollCall (call_state_of call_states t) call
+    → home_of homes t ≡ Some c → CallsFit homes c O past local call_states under_way calling → local.lock.sleep.threads.current ≡ Some t
+    → (under_way_at calling under_way ≡ None → local.lock.sleep.threads.hand ≡ None) → MayPollCall (call_state_of call_states t) call
     → MayGoOn (under_way_at calling under_way) (Calling t)
-    → MayPollSection O past t call (going (call_state_of call_states t) call) own under_way
-    × ((u : Tid) → home_of homes u ≡ Some c → same_tid t u ≡ false → FitsAt O past own call_states u)
-first_may homes c O past own call_states None None t call home fits runs hand call_state_may may =
-    let both = going_fits O past t call (call_state_of call_states t) (slept_for own.lock.slept t) (slept_for own.waits t)
+    → MayPollSection O past t call (going (call_state_of call_states t) call) local under_way
+    × ((u : Tid) → home_of homes u ≡ Some c → same_tid t u ≡ false → FitsAt O past local call_states u)
+first_may homes c O past local call_states None None t call home coupled runs hand call_state_may may =
+    let both = going_fits O past t call (call_state_of call_states t) (slept_for local.lock.slept t) (slept_for local.waits t)
     (call_state_of call_states t).call refl
-    (fits.fit t home) call_state_may in
-    (record { current = runs; called = both.0; goes = record { hand = hand refl; deferred = fits.deferred; fits = both.1 } }, λ u there other. fits.fit u there)
-first_may homes c O past own call_states (Some (sched.Pass p)) None t call home fits runs hand call_state_may may = grind arith
-first_may homes c O past own call_states (Some (sched.OnBuffer b e)) None t call home fits runs hand call_state_may may = absurd fits.none
-first_may homes c O past own call_states under_way (Some v) t call home fits runs hand call_state_may may = grind (arith, goes_called)
+    (coupled.fit t home) call_state_may in (
+      record { current = runs; called = both.0; goes = record { hand = hand refl; deferred = coupled.deferred; coupled = both.1 } },
+      λ u there other. coupled.fit
+          u there,
+    )
+first_may homes c O past local call_states (Some (sched.Pass p)) None t call home coupled runs hand call_state_may may = grind arith
+first_may homes c O past local call_states (Some (sched.OnBuffer b e)) None t call home coupled runs hand call_state_may may = absurd coupled.none
+first_may homes c O past local call_states under_way (Some v) t call home coupled runs hand call_state_may may = grind (arith, goes_called)
 
 -- a call state of another thread stays if this one's is kept
 pub other_call_state : (call_states now : List CallState) (t u : Tid) (x : CallState) → now ≡ slice_set call_states t.0 x → same_tid t u ≡ false
@@ -91,16 +94,17 @@ pub apart_call_state : (call_states now : List CallState) (t u : Tid) (x : CallS
 apart_call_state call_states now t u x is other = ap (λ l. call_state_of l u) is ∙ get_or-set_other call_states t.0 u.0 x no_call other
 
 -- the marks of a thread whose call continues are those of its stage
-abbrev pub MarksOf : Tid → Stage → Waiting BufferOut → Type 0
-MarksOf t stage own = (is_some (slept_for own.lock.slept t) ≡ true → asks_at stage ≡ true) × (is_some (slept_for own.waits t) ≡ true → waits_at stage ≡ true)
+abbrev pub MarksOf : Tid → Stage → Waiting BufferReply → Type 0
+MarksOf t stage local =
+    (is_some (slept_for local.lock.slept t) ≡ true → asks_at stage ≡ true) × (is_some (slept_for local.waits t) ≡ true → waits_at stage ≡ true)
 
 module _ {homes : List CpuId} {ActsFor : CpuId → Type 0} {O : LockId → Option BufferLock} {c : CpuId} {t : Tid} {call : Call} {call_state : CallState}
-    {old new : List BufferEvent} {own left : Waiting BufferOut} {under_way : Option (SchedCall (CvCall BufferEdit))} {done : Bool} {later : CallState}
-    (section_polled : SectionPolled homes ActsFor O c t call call_state old new own left under_way done later) where
+    {old new : List BufferEvent} {local left : Waiting BufferReply} {under_way : Option (SchedCall (CvCall BufferEdit))} {done : Bool} {later : CallState}
+    (section_polled : SectionPolled homes ActsFor O c t call call_state old new local left under_way done later) where
   pub ended_of : done ≡ true → Ended O (buffer_sections new) t call_state left under_way later
   ended_of is = subst (λ d. After O (buffer_sections new) t call call_state left under_way d later) is section_polled.after
 
-  pub sizes_of : (call_states now : List CallState) → now ≡ slice_set call_states t.0 later → Sizes own call_states → Sizes left now
+  pub sizes_of : (call_states now : List CallState) → now ≡ slice_set call_states t.0 later → Sizes local call_states → Sizes left now
   sizes_of call_states now is sizes = record {
     slept = section_polled.sizes.0 ∙ sizes.slept;
     waits = section_polled.sizes.1 ∙ sizes.waits;
@@ -119,39 +123,39 @@ module _ {homes : List CpuId} {ActsFor : CpuId → Type 0} {O : LockId → Optio
     next_going = grind arith
 
     -- why nothing was done below
-    pub why_nothing_done : own.lock.sleep.threads.current ≡ Some t → handed ≡ is_handed own.lock.slept own.lock.sleep.threads.current
-        → (IsSome (slept_for own.waits t)) ⊎ (IsSome (slept_for own.lock.slept t))
+    pub why_nothing_done : local.lock.sleep.threads.current ≡ Some t → handed ≡ is_handed local.lock.slept local.lock.sleep.threads.current
+        → (IsSome (slept_for local.waits t)) ⊎ (IsSome (slept_for local.lock.slept t))
     why_nothing_done runs is_handed_so = grind arith
 
   -- the reply is read off the call state that the section poll left
   pub completes_as : (stage : Stage) → stage ≡ call_state.stage → (answer : Option Reply) → answer ≡ (if done then reply_at call stage later.effect else None)
       → answer ≡ (if done then replied call call_state call_state.stage else None)
-  completes_as stage is answer told = grind arith
+  completes_as stage is answer abstract_answer = grind arith
 
   -- if one section poll was all, the thread neither slept for the lock nor waited
-  pub exit_free : (handed : Bool) → MarksOf t call_state.stage own → ((done ≡ true) × (is_at_once call_state.stage handed ≡ false)) ⊎ (done ≡ false)
-      → own.lock.sleep.threads.current ≡ Some t → handed ≡ is_handed own.lock.slept own.lock.sleep.threads.current
-      → (slept_for own.lock.slept t ≡ None) × (slept_for own.waits t ≡ None)
+  pub exit_free : (handed : Bool) → MarksOf t call_state.stage local → ((done ≡ true) × (is_at_once call_state.stage handed ≡ false)) ⊎ (done ≡ false)
+      → local.lock.sleep.threads.current ≡ Some t → handed ≡ is_handed local.lock.slept local.lock.sleep.threads.current
+      → (slept_for local.lock.slept t ≡ None) × (slept_for local.waits t ≡ None)
   exit_free handed marks exits runs handed_is = grind arith
 
-pub marks_of : (O : LockId → Option BufferLock) (past : List BufferSection) (t : Tid) (call : Call) (call_state : CallState) (own : Waiting BufferOut)
-    (w : Option (SchedCall (CvCall BufferEdit))) → SectionGoes O past t call call_state own w → MarksOf t call_state.stage own
-marks_of O past t call call_state own w goes = grind arith
+pub marks_of : (O : LockId → Option BufferLock) (past : List BufferSection) (t : Tid) (call : Call) (call_state : CallState) (local : Waiting BufferReply)
+    (w : Option (SchedCall (CvCall BufferEdit))) → SectionGoes O past t call call_state local w → MarksOf t call_state.stage local
+marks_of O past t call call_state local w goes = grind arith
 
 -- if another section poll follows an Acquire, the thread slept for the lock
-pub why_slept : (t : Tid) (stage : Stage) (own : Waiting BufferOut) (handed : Bool) → is_at_once stage handed ≡ true → MarksOf t stage own
-    → own.lock.sleep.threads.current ≡ Some t → handed ≡ is_handed own.lock.slept own.lock.sleep.threads.current → waits_at stage ≡ false
-    → (slept_for own.waits t ≡ None) × (is_some (slept_for own.lock.slept t) ≡ true)
-why_slept t stage own handed once marks runs handed_is no_wait = grind arith
+pub why_slept : (t : Tid) (stage : Stage) (local : Waiting BufferReply) (handed : Bool) → is_at_once stage handed ≡ true → MarksOf t stage local
+    → local.lock.sleep.threads.current ≡ Some t → handed ≡ is_handed local.lock.slept local.lock.sleep.threads.current → waits_at stage ≡ false
+    → (slept_for local.waits t ≡ None) × (is_some (slept_for local.lock.slept t) ≡ true)
+why_slept t stage local handed once marks runs handed_is no_wait = grind arith
 
 -- the call continues after a section, except the last one, after which it returns
-abbrev pub GoesOrEnds : CallState → Call → Stage → QOut (CvOut BufferOut) → Type 0
+abbrev pub GoesOrEnds : CallState → Call → Stage → QLockReply (CvReply BufferReply) → Type 0
 GoesOrEnds call_state call stage out =
     ((replied call call_state stage ≡ None) × ((recorded call_state stage out).call ≡ Some call))
     ⊎ ((f : Effect) × (call_state.effect ≡ Some f) × (replied call call_state stage ≡ Some (reply_of call f)) × ((recorded call_state stage out).stage ≡ Idle)
     × ((recorded call_state stage out).call ≡ None) × ((recorded call_state stage out).effect ≡ call_state.effect))
 
-pub goes_or_ends : (call_state : CallState) (call : Call) (stage : Stage) (out : QOut (CvOut BufferOut)) → call_state.call ≡ Some call
+pub goes_or_ends : (call_state : CallState) (call : Call) (stage : Stage) (out : QLockReply (CvReply BufferReply)) → call_state.call ≡ Some call
     → is_some call_state.effect ≡ done_at stage → GoesOrEnds call_state call stage out
 goes_or_ends call_state call stage out is done = grind arith
 
@@ -159,22 +163,22 @@ begun_there : (stage : Stage) (o : Option Call) → called_at stage ≡ true →
 begun_there stage o is = grind arith
 
 module _ {homes : List CpuId} {ActsFor : CpuId → Type 0} {O : LockId → Option BufferLock} {c : CpuId} {t : Tid} {call : Call} {call_state : CallState}
-    {old new : List BufferEvent} {own left : Waiting BufferOut} {under_way : Option (SchedCall (CvCall BufferEdit))} {done : Bool} {later : CallState}
-    (section_polled : SectionPolled homes ActsFor O c t call call_state old new own left under_way done later) (home : home_of homes t ≡ Some c)
+    {old new : List BufferEvent} {local left : Waiting BufferReply} {under_way : Option (SchedCall (CvCall BufferEdit))} {done : Bool} {later : CallState}
+    (section_polled : SectionPolled homes ActsFor O c t call call_state old new local left under_way done later) (home : home_of homes t ≡ Some c)
     (called : call_state.call ≡ Some call) (call_states now : List CallState) (own_call_state : call_state_of now t ≡ later)
     (same : (u : Tid) → same_tid t u ≡ false → call_state_of now u ≡ call_state_of call_states u) where
   -- the call states of the other threads fit as before
-  pub others_after : ((u : Tid) → home_of homes u ≡ Some c → same_tid t u ≡ false → FitsAt O (buffer_sections old) own call_states u)
+  pub others_after : ((u : Tid) → home_of homes u ≡ Some c → same_tid t u ≡ false → FitsAt O (buffer_sections old) local call_states u)
       → (u : Tid) → home_of homes u ≡ Some c → same_tid t u ≡ false → FitsAt O (buffer_sections new) left now u
   others_after before u there other =
       rw (same u other, (section_polled.marks u other).0, (section_polled.marks u other).1) (section_polled.apart u there other
-      (call_state_of call_states u).call (slept_for own.lock.slept u) (slept_for own.waits u) (call_state_of call_states u) (before u there other))
+      (call_state_of call_states u).call (slept_for local.lock.slept u) (slept_for local.waits u) (call_state_of call_states u) (before u there other))
 
-  abbrev Fit : Option Tid → Type 0
-  Fit calling = CallsFit homes c O (buffer_sections new) left now under_way calling
+  abbrev Coupling : Option Tid → Type 0
+  Coupling calling = CallsFit homes c O (buffer_sections new) left now under_way calling
 
   idle : NoSection under_way → left.lock.sleep.deferred ≡ None → FitsAt O (buffer_sections new) left now t
-      → ((u : Tid) → home_of homes u ≡ Some c → same_tid t u ≡ false → FitsAt O (buffer_sections new) left now u) → Fit None
+      → ((u : Tid) → home_of homes u ≡ Some c → same_tid t u ≡ false → FitsAt O (buffer_sections new) left now u) → Coupling None
   idle none deferred mine others = record { none = none; deferred = deferred; fit = λ u there. go u there (same_tid t u) refl }
     where
       go : (u : Tid) → home_of homes u ≡ Some c → (b : Bool) → same_tid t u ≡ b → FitsAt O (buffer_sections new) left now u
@@ -182,7 +186,7 @@ module _ {homes : List CpuId} {ActsFor : CpuId → Type 0} {O : LockId → Optio
       go u there false is = others u there is
 
   abbrev FitAfter : Option Reply → Type 0
-  FitAfter answer = Fit (calling_after t left.lock.sleep.threads.current answer)
+  FitAfter answer = Coupling (calling_after t left.lock.sleep.threads.current answer)
 
   -- the call continues after its section
   call_on : (after : Ended O (buffer_sections new) t call_state left under_way later)
@@ -191,19 +195,20 @@ module _ {homes : List CpuId} {ActsFor : CpuId → Type 0} {O : LockId → Optio
       later.effect
   call_on after goes =
       let is_call : later.call ≡ Some call = ap (λ (o : CallState). o.call) after.recorded_is.1 ∙ goes in
-      (is_call, subst (λ o. CallStateFits O (buffer_sections new) t o (slept_for left.lock.slept t) (slept_for left.waits t) later) is_call after.fits)
+      (is_call, subst (λ o. CallStateFits O (buffer_sections new) t o (slept_for left.lock.slept t) (slept_for left.waits t) later) is_call after.coupled)
 
-  pub poll_done : ((u : Tid) → home_of homes u ≡ Some c → same_tid t u ≡ false → FitsAt O (buffer_sections old) own call_states u)
+  pub poll_done : ((u : Tid) → home_of homes u ≡ Some c → same_tid t u ≡ false → FitsAt O (buffer_sections old) local call_states u)
       → (answer : Option Reply) → answer ≡ (if done then replied call call_state call_state.stage else None) → FitAfter answer
   poll_done before answer answers = go done answers section_polled.after
     where
       others : (u : Tid) → home_of homes u ≡ Some c → same_tid t u ≡ false → FitsAt O (buffer_sections new) left now u
       others = others_after before
 
-      at : (runs : Option Tid) (told : Option Reply) → left.lock.sleep.threads.current ≡ runs → answer ≡ told → Fit (calling_after t runs told)
+      at : (runs : Option Tid) (abstract_answer : Option Reply) → left.lock.sleep.threads.current ≡ runs → answer ≡ abstract_answer
+          → Coupling (calling_after t runs abstract_answer)
           → FitAfter answer
-      at runs told is_run is_observed fit =
-          subst (λ u. Fit (calling_after t u answer)) (sym is_run) (subst (λ r. Fit (calling_after t runs r)) (sym is_observed) fit)
+      at runs abstract_answer is_run is_observed fit =
+          subst (λ u. Coupling (calling_after t u answer)) (sym is_run) (subst (λ r. Coupling (calling_after t runs r)) (sym is_observed) fit)
 
       none_there : (w : Option (SchedCall (CvCall BufferEdit))) → w ≡ None → NoSection w
       none_there None is = tt
@@ -222,20 +227,20 @@ module _ {homes : List CpuId} {ActsFor : CpuId → Type 0} {O : LockId → Optio
                 may = record {
                   current = after.current;
                   called = ap (λ (o : CallState). o.call) own_call_state ∙ on.0;
-                  goes = rw (after.none, own_call_state) (record { hand = after.hand; deferred = after.deferred; fits = on.1 });
+                  goes = rw (after.none, own_call_state) (record { hand = after.hand; deferred = after.deferred; coupled = on.1 });
                 };
                 others = others;
               })
           by_stage (inr ends) =
               at (Some t) (Some (reply_of call ends.0)) after.current (is ∙ ends.2)
-              (idle (none_there under_way after.none) after.deferred (rw own_call_state after.fits) others)
+              (idle (none_there under_way after.none) after.deferred (rw own_call_state after.coupled) others)
       go false is after = by_case after.1
         where
           by_case : Sleeps O (buffer_sections new) t call call_state left under_way ⊎ SectionStays O (buffer_sections new) t call call_state left under_way
               → FitAfter answer
           by_case (inl sleeps) =
               at None None sleeps.current is (idle (none_there under_way sleeps.none) sleeps.deferred (rw (own_call_state ∙ after.0) (subst (λ o. CallStateFits
-              O (buffer_sections new) t o (slept_for left.lock.slept t) (slept_for left.waits t) call_state) (sym called) sleeps.fits)) others)
+              O (buffer_sections new) t o (slept_for left.lock.slept t) (slept_for left.waits t) call_state) (sym called) sleeps.coupled)) others)
           by_case (inr stays) =
               at (Some t) None stays.current is (record {
                 call = call;
@@ -283,21 +288,22 @@ module _ {homes : List CpuId} {ActsFor : CpuId → Type 0} {O : LockId → Optio
           by_stage (inr ends) = rw (is ∙ ends.2, own_call_state ∙ after.recorded_is.1) (ends.3, (ends.0, ends.5 ∙ ends.1, refl))
 
 -- what a section poll leaves is what its plan makes of the poll's result
-pub recorded_left : (t : Tid) (call : Call) (call_state : CallState) (call_states now : List CallState) (stage : Stage) (cv : Waiting BufferOut)
+pub recorded_left : (t : Tid) (call : Call) (call_state : CallState) (call_states now : List CallState) (stage : Stage) (cv : Waiting BufferReply)
     (answer : Option BufferOutcome) (done : Bool)
     → done ≡ is_some answer → now ≡ slice_set call_states t.0 (recorded_if call_state stage answer)
-    → left_recorded t call call_state call_states stage (record { own = cv; answer = answer })
-    ≡ record { own = buffering cv now; answer = if done then replied call call_state stage else None }
+    → left_recorded t call call_state call_states stage (record { local = cv; answer = answer })
+    ≡ record { local = buffering cv now; answer = if done then replied call call_state stage else None }
 recorded_left t call call_state call_states now stage cv answer done is same = grind arith
 
-module _ (opening : LockId → Option (QueueBlock BufferLock)) (c : CpuId) (past : List BufferEvent) (own : Threads) (t : Tid)
+module _ (opening : LockId → Option (QueueBlock BufferLock)) (c : CpuId) (past : List BufferEvent) (local : Threads) (t : Tid)
     (legal : AreMoves (homes_in opening) (moves_in (kernel_of opening) past))
-    (stands : Stands (homes_in opening) c (moves_in (kernel_of opening) past) own) (runs : own.current ≡ Some t) where
+    (stands : Stands (homes_in opening) c (moves_in (kernel_of opening) past) local) (runs : local.current ≡ Some t) where
   pub runs_home : home_of (homes_in opening) t ≡ Some c
-  runs_home = (current_at (homes_in opening) c (moves_in (kernel_of opening) past) own legal stands t runs).0
+  runs_home = (current_at (homes_in opening) c (moves_in (kernel_of opening) past) local legal stands t runs).0
 
   pub runs_awake : LocksAgree monitored opening past → (lock : LockId) (line : WaitList)
       → is_in t (wait_list_in line (lock_after monitored (inner opening) lock (buffer_sections past))) ≡ false
   runs_awake agree lock line =
       not_counted t (wait_list_in line (lock_after monitored (inner opening) lock (buffer_sections past))) (agree lock line t
-      ∙ ap (λ w. one_if (is_at lock line (wait_channel_of w))) (current_at (homes_in opening) c (moves_in (kernel_of opening) past) own legal stands t runs).1)
+      ∙ ap (λ w. one_if (is_at lock line (wait_channel_of w)))
+      (current_at (homes_in opening) c (moves_in (kernel_of opening) past) local legal stands t runs).1)

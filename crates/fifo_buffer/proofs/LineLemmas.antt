@@ -10,7 +10,7 @@ use Rattle.layer_traits.specs.Blocks.{BufferEffects.{drawn_in, effect_of, effect
 use Rattle.layer_traits.specs.Blocks.{BufferProtocol.{buffer_lock_at, buffer_rules, is_in_line}, QueueBlocks.{StartsWell, inner}, BufferBlocks.counted}
 use Rattle.layer_traits.specs.Blocks.BufferBlocks.{may_join, drawn_of, BufferState, entered, is_first, is_next, line_of}
 use Rattle.layer_traits.specs.declared.{buffer_edits.BufferEdit.{BufferEdit, TheVariants.{Enter, TryPut, TryTake, Shut}}, locked.Side.Side}
-use Rattle.layer_traits.specs.declared.locked.{Side.TheVariants.{Receivers, Senders}, QEdit.TheVariants.{Acquire, Inside, Release}}
+use Rattle.layer_traits.specs.declared.locked.{Side.TheVariants.{Receivers, Senders}, QLockCall.TheVariants.{Acquire, Inside, Release}}
 use Rattle.layer_traits.specs.declared.{queue_edits.QueueBlock.QueueBlock, queues.QueueCall.{QueueCall, TheVariants.{Push, TakeAll, OnBuffer}}}
 use Rattle.layer_traits.specs.{declared.conditions.CvEdit.TheVariants.{Edit, SignalFront}, Layers.{Conditions.CvCall, QLocking.{lock_caller, lock_edited}}}
 use Rattle.layer_traits.specs.{Layers.{QLocking.lock_asked_by, Queues.{QueueAllowed, buffer_sections, with_section}}, Protocols.Protocol.section}

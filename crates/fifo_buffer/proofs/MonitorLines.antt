@@ -10,9 +10,9 @@ use Rattle.{layer_traits.specs.Layers.Sleeping.{wait_list_joined, wait_list_of},
 use Rattle.{thread_blocks.proofs.{Members.{same_tid_self, same_tid_true}, Distinct.{pushed_in, taken_absent}}, fifo_buffer.specs.Laws.BlockSteps.put_counts}
 use Rattle.fifo_buffer.specs.{Laws.BlockSteps.{put_step, take_counts, take_step}, Served.{group_on, served}, Tallies.drawn_by}
 use Rattle.fifo_buffer.specs.declared.monitor_blocks.{Front.{Front, TheVariants.{Asleep, Owed, Awake}}, MonitorAsk.{MonitorAsk, TheVariants.{Send, Receive}}}
-use Rattle.fifo_buffer.specs.declared.monitor_blocks.{MonitorAsk.TheVariants.{Close, WakeFirst}, MonitorEdit.MonitorEdit, MonitorOut.MonitorOut}
-use Rattle.fifo_buffer.specs.{declared.monitor_blocks.MonitorOut.TheVariants.{Acted, Refused}, Monitors.{MonitorState, buffer_alone, close_effect, closed_now}}
-use Rattle.fifo_buffer.specs.Monitors.{first_woken, front_of, front_joined, front_woken, goes_now, is_at_head, is_owed, is_owed_by, leaving_of}
+use Rattle.fifo_buffer.specs.declared.monitor_blocks.{MonitorAsk.TheVariants.{Close, WakeFirst}, MonitorEdit.MonitorEdit, MonitorReply.MonitorReply}
+use Rattle.fifo_buffer.specs.{declared.monitor_blocks.MonitorReply.TheVariants.{Acted, Refused}, Monitors.{MonitorState, buffer_alone, close_effect}}
+use Rattle.fifo_buffer.specs.Monitors.{closed_now, first_woken, front_of, front_joined, front_woken, goes_now, is_at_head, is_owed, is_owed_by, leaving_of}
 use Rattle.fifo_buffer.specs.Monitors.{monitor_edited_by, monitor_effect, monitor_joins, monitor_leaves, monitor_line, monitor_rules, monitor_told_by, opposite}
 use Rattle.fifo_buffer.specs.Monitors.{owed_by, owed_first, owed_next, owing, receive_effect, received, send_effect, monitor_sent, waiting_at}
 use Rattle.fifo_buffer.specs.MonitorSections.{HasEffect, IsMonitorSection, effect_had, first_called, line_joined, JoinsLine, NobodyBefore, WakesFirst}
@@ -81,7 +81,7 @@ send_acts t m x goes =
       counts = λ g. rw kind (go g);
       lines = lines;
       heeded = heed_at;
-      told = λ none at. owes_nobody t Receivers (owing t (monitor_sent m x)) none at;
+      abstract_answer = λ none at. owes_nobody t Receivers (owing t (monitor_sent m x)) none at;
     }
   where
     go : (g : Group) → drawn_by g (buffer_alone (owing t (monitor_sent m x)))
@@ -119,7 +119,7 @@ receive_acts t x goes =
       counts = λ g. rw kind (go g);
       lines = lines;
       heeded = heed_at;
-      told = λ none at. owes_nobody t Senders (owing t (received x)) none at;
+      abstract_answer = λ none at. owes_nobody t Senders (owing t (received x)) none at;
     }
   where
     go : (g : Group) → drawn_by g (buffer_alone (owing t (received x)))
@@ -151,7 +151,7 @@ close_acts t x = record {
   counts = go;
   lines = lines;
   heeded = heed_at;
-  told = λ none at. owes_nobody t Receivers (owing t (closed_now x)) none at;
+  abstract_answer = λ none at. owes_nobody t Receivers (owing t (closed_now x)) none at;
 }
   where
     go : (g : Group) → drawn_by g (buffer_alone (owing t (closed_now x)))
@@ -213,7 +213,7 @@ wakes_first t Receivers x = record {
   lines = lines;
   opposite_front = refl;
   buffer = refl;
-  told = λ none at. owes_nobody t Senders (first_woken Receivers x) none at;
+  abstract_answer = λ none at. owes_nobody t Senders (first_woken Receivers x) none at;
 }
   where
     lines : (at : Side) → monitor_line at (first_woken Receivers x) ≡ monitor_line at x
@@ -231,7 +231,7 @@ wakes_first t Senders x = record {
   lines = lines;
   opposite_front = refl;
   buffer = refl;
-  told = λ none at. owes_nobody t Receivers (first_woken Senders x) none at;
+  abstract_answer = λ none at. owes_nobody t Receivers (first_woken Senders x) none at;
 }
   where
     lines : (at : Side) → monitor_line at (first_woken Senders x) ≡ monitor_line at x
@@ -338,54 +338,54 @@ section_heeded : (t : Tid) (call : MonitorAsk) (s : MonitorLocked) (side : Side)
     → Heeded side (sleep_edited monitor_rules (record { thread = t; ask = call }) s)
 section_heeded t (Send m) s Receivers before = go (goes_now t Senders s.above)
   where
-    told : Bool → MonitorOut
-    told v = if v then Acted (send_effect m s.above) (owed_next t Receivers (owing t (monitor_sent m s.above))) else Refused Senders
+    abstract_answer : Bool → MonitorReply
+    abstract_answer v = if v then Acted (send_effect m s.above) (owed_next t Receivers (owing t (monitor_sent m s.above))) else Refused Senders
 
     block : Bool → MonitorState
     block v = if v then owing t (monitor_sent m s.above) else waiting_at t Senders s.above
 
     go : (v : Bool) → IsHeeded (block v).receive_line (block v).first_receiver
-        (wait_list_joined wait_list.Receivers (monitor_joins (told v)) t (left wait_list.Receivers (monitor_leaves (told v)) s.receivers))
+        (wait_list_joined wait_list.Receivers (monitor_joins (abstract_answer v)) t (left wait_list.Receivers (monitor_leaves (abstract_answer v)) s.receivers))
         (may_go Receivers (buffer_alone (block v)))
     go true = owed_heeded t s.above.receive_line s.receivers s.above.first_receiver (may_go Receivers (buffer_alone (monitor_sent m s.above))) before.awake
     go false = before
 section_heeded t (Send m) s Senders before = go (goes_now t Senders s.above) refl
   where
-    told : Bool → MonitorOut
-    told v = if v then Acted (send_effect m s.above) (owed_next t Receivers (owing t (monitor_sent m s.above))) else Refused Senders
+    abstract_answer : Bool → MonitorReply
+    abstract_answer v = if v then Acted (send_effect m s.above) (owed_next t Receivers (owing t (monitor_sent m s.above))) else Refused Senders
 
     block : Bool → MonitorState
     block v = if v then owing t (monitor_sent m s.above) else waiting_at t Senders s.above
 
     go : (v : Bool) → goes_now t Senders s.above ≡ v → IsHeeded (block v).send_line (block v).first_sender
-        (wait_list_joined wait_list.Senders (monitor_joins (told v)) t (left wait_list.Senders (monitor_leaves (told v)) s.senders))
+        (wait_list_joined wait_list.Senders (monitor_joins (abstract_answer v)) t (left wait_list.Senders (monitor_leaves (abstract_answer v)) s.senders))
         (may_go Senders (buffer_alone (block v)))
     go true is =
         owed_heeded t (rest s.above.send_line) s.senders Asleep (may_go Senders (buffer_alone (monitor_sent m s.above))) (λ u at none. absurd (cc none))
     go false is = joined_heeded t s.above.send_line s.senders s.above.first_sender (may_go Senders (buffer_alone s.above)) is before
 section_heeded t Receive s Senders before = go (goes_now t Receivers s.above)
   where
-    told : Bool → MonitorOut
-    told v = if v then Acted (receive_effect s.above) (owed_next t Senders (owing t (received s.above))) else Refused Receivers
+    abstract_answer : Bool → MonitorReply
+    abstract_answer v = if v then Acted (receive_effect s.above) (owed_next t Senders (owing t (received s.above))) else Refused Receivers
 
     block : Bool → MonitorState
     block v = if v then owing t (received s.above) else waiting_at t Receivers s.above
 
     go : (v : Bool) → IsHeeded (block v).send_line (block v).first_sender
-        (wait_list_joined wait_list.Senders (monitor_joins (told v)) t (left wait_list.Senders (monitor_leaves (told v)) s.senders))
+        (wait_list_joined wait_list.Senders (monitor_joins (abstract_answer v)) t (left wait_list.Senders (monitor_leaves (abstract_answer v)) s.senders))
         (may_go Senders (buffer_alone (block v)))
     go true = owed_heeded t s.above.send_line s.senders s.above.first_sender (may_go Senders (buffer_alone (received s.above))) before.awake
     go false = before
 section_heeded t Receive s Receivers before = go (goes_now t Receivers s.above) refl
   where
-    told : Bool → MonitorOut
-    told v = if v then Acted (receive_effect s.above) (owed_next t Senders (owing t (received s.above))) else Refused Receivers
+    abstract_answer : Bool → MonitorReply
+    abstract_answer v = if v then Acted (receive_effect s.above) (owed_next t Senders (owing t (received s.above))) else Refused Receivers
 
     block : Bool → MonitorState
     block v = if v then owing t (received s.above) else waiting_at t Receivers s.above
 
     go : (v : Bool) → goes_now t Receivers s.above ≡ v → IsHeeded (block v).receive_line (block v).first_receiver
-        (wait_list_joined wait_list.Receivers (monitor_joins (told v)) t (left wait_list.Receivers (monitor_leaves (told v)) s.receivers))
+        (wait_list_joined wait_list.Receivers (monitor_joins (abstract_answer v)) t (left wait_list.Receivers (monitor_leaves (abstract_answer v)) s.receivers))
         (may_go Receivers (buffer_alone (block v)))
     go true is =
         owed_heeded t (rest s.above.receive_line) s.receivers Asleep (may_go Receivers (buffer_alone (received s.above))) (λ u at none. absurd (cc none))
@@ -487,10 +487,10 @@ served_there side c t b d (Some f) es other =
 
 module _ (b : BufId) (c : CpuId) (t : Tid) (small : t.0 < THREADS) (es : List Entry) (x : MonitorState) (all : List Tid) where
   -- the threads that arrived are those that were served and those in the line, one section further
-  abbrev KeepsOrder : Side → Bool → MonitorOut → MonitorState → Type 0
-  KeepsOrder side new told y =
+  abbrev KeepsOrder : Side → Bool → MonitorReply → MonitorState → Type 0
+  KeepsOrder side new abstract_answer y =
       (if new then all ++ t ∷ [] else all)
-      ≡ served side b.0 (option_to_list (option_map (entry_of c t b) (monitor_effect told)) ++ es) ++ monitor_line side y
+      ≡ served side b.0 (option_to_list (option_map (entry_of c t b) (monitor_effect abstract_answer)) ++ es) ++ monitor_line side y
 
   keeps_order : (side : Side) (call : MonitorAsk) → all ≡ served side b.0 es ++ monitor_line side x
       → KeepsOrder side (is_on_side side (turn_side call) && not (is_in t (monitor_line side x))) (monitor_told_by t call x) (monitor_edited_by t call x)

@@ -5,8 +5,8 @@ use Rattle.layer_traits.specs.{Blocks.QueueBlocks.{homes_in, inner}, Polling.Pol
 use Rattle.layer_traits.specs.declared.{queue_edits.QueueBlock.QueueBlock, queues.QueueEvent.QueueEvent, scheds.SchedCall.SchedCall, sleeps.Outcome.Outcome}
 use Rattle.layer_traits.specs.Layers.{BufferLaw.{MayGoOn, OthersSeen, Passing, call_state_of, no_call, still_passing}, Queues.{Kernel, buffer_sections}}
 use Rattle.layer_traits.specs.Layers.{Queues.moves_in, Scheds.{SchedPolled, events_of, pass_call}, SleepLaw.{Sleeping, done_if, sleep_kernel}}
-use Rattle.layer_traits.{specs.{Layers.Sleeping.NobodySleeps, Threads.{Passes.PassPolled, Places.Threads}}, proofs.CallLemmas.pass_polled}
-use Rattle.{layer_traits.proofs.SleepLemmas.done_same, fifo_buffer.specs.declared.monitor_blocks.{MonitorEdit.MonitorEdit, MonitorOut.MonitorOut}}
+use Rattle.layer_traits.{specs.{Layers.Sleeping.NoSleepers, Threads.{Passes.PassPolled, Places.Threads}}, proofs.CallLemmas.pass_polled}
+use Rattle.{layer_traits.proofs.SleepLemmas.done_same, fifo_buffer.specs.declared.monitor_blocks.{MonitorEdit.MonitorEdit, MonitorReply.MonitorReply}}
 use Rattle.fifo_buffer.specs.{Monitors.monitor_rules, MonitorHistories.{MonitorLocked, fresh_monitors, monitor_entries}, MonitorParts.{CallFits, MonitorFits}}
 use Rattle.fifo_buffer.{specs.MonitorParts.{NoMonitorSection, OpensFresh, AgreesWithStage, monitor_under}, proofs.MonitorPolls.{entries_append, entries_others}}
 use Rattle.fifo_buffer.proofs.MonitorPolls.{entries_over}
@@ -20,7 +20,7 @@ no_events_before k [] none = refl
 no_events_before k (e ∷ past) none = absurd (cc none)
 
 -- no thread waits at fresh monitors
-pub nobody_sleeps_yet : (caps : List ℕ) (locks : LockId → Option MonitorLocked) → locks ≡ fresh_monitors caps → NobodySleeps locks
+pub nobody_sleeps_yet : (caps : List ℕ) (locks : LockId → Option MonitorLocked) → locks ≡ fresh_monitors caps → NoSleepers locks
 nobody_sleeps_yet caps locks fresh lock wait_list = grind arith
 
 -- no thread has called
@@ -32,14 +32,14 @@ no_stage_yet t = subst (λ (s : CallState). AgreesWithStage s.stage s.effect) (s
 pub fresh_still : (opening opening' : LockId → Option (QueueBlock MonitorLocked)) → opening' ≡ opening → OpensFresh opening → OpensFresh opening'
 fresh_still opening opening' same fresh = subst OpensFresh (sym same) fresh
 
-pub part_still : (opening opening' : LockId → Option (QueueBlock MonitorLocked)) → opening' ≡ opening → (own : Sleeping MonitorOut)
+pub part_still : (opening opening' : LockId → Option (QueueBlock MonitorLocked)) → opening' ≡ opening → (local : Sleeping MonitorReply)
     (call_states : List CallState) (under_way : Option (SchedCall MonitorEdit)) (calling : Option Tid)
-    → MonitorFits opening own call_states under_way calling → MonitorFits opening' own call_states under_way calling
-part_still opening opening' same own call_states under_way calling fits = record {
-  fresh = fresh_still opening opening' same fits.fresh;
-  slots = fits.slots;
-  stages = fits.stages;
-  calls = fits.calls;
+    → MonitorFits opening local call_states under_way calling → MonitorFits opening' local call_states under_way calling
+part_still opening opening' same local call_states under_way calling coupled = record {
+  fresh = fresh_still opening opening' same coupled.fresh;
+  slots = coupled.slots;
+  stages = coupled.stages;
+  calls = coupled.calls;
 }
 
 -- A pass.
@@ -53,22 +53,22 @@ no_section_left : (p : Pass) (result : Option (Unit {0})) → NoMonitorSection (
 no_section_left p None = tt
 no_section_left p (Some u) = tt
 
-under_none : (under_way : Option (SchedCall MonitorEdit)) (own : Sleeping MonitorOut) (call_states : List CallState) (calling : Option Tid)
-    → calling ≡ None → CallFits calling under_way own call_states → own.deferred ≡ None
-under_none under_way own call_states calling is fits = (subst (λ o. CallFits o under_way own call_states) is fits).1
+under_none : (under_way : Option (SchedCall MonitorEdit)) (local : Sleeping MonitorReply) (call_states : List CallState) (calling : Option Tid)
+    → calling ≡ None → CallFits calling under_way local call_states → local.deferred ≡ None
+under_none under_way local call_states calling is coupled = (subst (λ o. CallFits o under_way local call_states) is coupled).1
 
-pub fits_after_pass : (opening opening' : LockId → Option (QueueBlock MonitorLocked)) (own own' : Sleeping MonitorOut) (call_states : List CallState)
+pub fits_after_pass : (opening opening' : LockId → Option (QueueBlock MonitorLocked)) (local local' : Sleeping MonitorReply) (call_states : List CallState)
     (under_way under_way' : Option (SchedCall MonitorEdit)) (calling : Option Tid) (p : Pass) (result : Option (Unit {0})) → opening' ≡ opening
-    → under_way' ≡ until_answered result (sched.Pass p) → own'.deferred ≡ own.deferred → MayGoOn (monitor_under calling under_way) (Passing p)
-    → MonitorFits opening own call_states under_way calling → MonitorFits opening' own' call_states under_way' calling
-fits_after_pass opening opening' own own' call_states under_way under_way' calling p result same is rest goes_on fits = record {
-  fresh = fresh_still opening opening' same fits.fresh;
-  slots = fits.slots;
-  stages = fits.stages;
+    → under_way' ≡ until_answered result (sched.Pass p) → local'.deferred ≡ local.deferred → MayGoOn (monitor_under calling under_way) (Passing p)
+    → MonitorFits opening local call_states under_way calling → MonitorFits opening' local' call_states under_way' calling
+fits_after_pass opening opening' local local' call_states under_way under_way' calling p result same is rest goes_on coupled = record {
+  fresh = fresh_still opening opening' same coupled.fresh;
+  slots = coupled.slots;
+  stages = coupled.stages;
   calls =
       let none = no_calling under_way calling p goes_on in
-      subst (λ o. CallFits o under_way' own' call_states) (sym none)
-      (subst NoMonitorSection (sym is) (no_section_left p result), rest ∙ under_none under_way own call_states calling none fits.calls);
+      subst (λ o. CallFits o under_way' local' call_states) (sym none)
+      (subst NoMonitorSection (sym is) (no_section_left p result), rest ∙ under_none under_way local call_states calling none coupled.calls);
 }
 
 still : (p : Pass) (result : Option (Unit {0})) → monitor_under None (until_answered result (sched.Pass p)) ≡ still_passing p result
@@ -83,8 +83,8 @@ pass_under under_way under_way' calling p result is goes_on =
 
 module _ (opening : LockId → Option (QueueBlock MonitorLocked)) (ActsFor Acts : CpuId → Type 0) (weaker : (d : CpuId) → Acts d → ActsFor d)
     (c : CpuId) (p : Pass)
-    (result : Option (Unit {0})) (old new : List (QueueEvent MonitorEdit)) (own own' : Threads)
-    (polled : SchedPolled (sleep_kernel monitor_rules opening) ActsFor c (sched.Pass p) (done_if result) old new own own') where
+    (result : Option (Unit {0})) (old new : List (QueueEvent MonitorEdit)) (local local' : Threads)
+    (polled : SchedPolled (sleep_kernel monitor_rules opening) ActsFor c (sched.Pass p) (done_if result) old new local local') where
   no_sections : (v : Bool) (past : List (QueueEvent MonitorEdit))
       → buffer_sections (if v then events_of c (pass_call (homes_in opening) c p) ++ past else past) ≡ buffer_sections past
   no_sections v past = grind arith
@@ -100,14 +100,14 @@ module _ (opening : LockId → Option (QueueBlock MonitorLocked)) (ActsFor Acts 
 
   -- and is a pass in moves
   pub passed_moves : PassPolled (homes_in opening) Acts c p result (moves_in (sleep_kernel monitor_rules opening) old)
-      (moves_in (sleep_kernel monitor_rules opening) new) own own'
+      (moves_in (sleep_kernel monitor_rules opening) new) local local'
   passed_moves =
-      let moved = pass_polled (sleep_kernel monitor_rules opening) ActsFor c p (done_if result) old new own own' polled in
-      let same : is_some (done_if {O = Outcome MonitorOut} result) ≡ is_some result = done_same (Outcome MonitorOut) result in
+      let moved = pass_polled (sleep_kernel monitor_rules opening) ActsFor c p (done_if result) old new local local' polled in
+      let same : is_some (done_if {O = Outcome MonitorReply} result) ≡ is_some result = done_same (Outcome MonitorReply) result in
       record {
         others = moved.others;
         foreign = λ d acts. moved.foreign d (weaker d acts);
         is = rw (← same) moved.is;
         after = rw (← same) moved.after;
-        at_once = λ local. sym same ∙ moved.at_once local;
+        at_once = λ local_is. sym same ∙ moved.at_once local_is;
       }

@@ -14,8 +14,8 @@ use Rattle.layer_traits.specs.Layers.{Queues.{cpu_of_queue_event, event, moves_i
 use Rattle.layer_traits.specs.Layers.SleepLaw.{MaySleep, PollResult, SendsHome, SleepPolled, Sleeping, WaitsStill, left_done, left_with, must_send, seen_with}
 use Rattle.layer_traits.specs.{Layers.{SleepLaw.sleep_kernel, Sleeping.{sleep_answer, sleep_moves, woken_by}}, Threads.Passes.{own_slept, own_woken, passed_on}}
 use Rattle.layer_traits.{specs.Threads.{Passes.queue_for, Places.{Step, Threads}}, proofs.CallLemmas.{moves_append, moves_others, moves_over}}
-use Rattle.{layer_traits.proofs.PlaceLemmas.woken_current, fifo_buffer.specs.declared.monitor_blocks.{MonitorEdit.MonitorEdit, MonitorOut.MonitorOut}}
-use Rattle.fifo_buffer.specs.{declared.monitor_blocks.MonitorOut.TheVariants.{Acted, Refused, Woke}, Monitors.{MonitorState, monitor_effect, monitor_joins}}
+use Rattle.{layer_traits.proofs.PlaceLemmas.woken_current, fifo_buffer.specs.declared.monitor_blocks.{MonitorEdit.MonitorEdit, MonitorReply.MonitorReply}}
+use Rattle.fifo_buffer.specs.{declared.monitor_blocks.MonitorReply.TheVariants.{Acted, Refused, Woke}, Monitors.{MonitorState, monitor_effect, monitor_joins}}
 use Rattle.fifo_buffer.specs.{Monitors.{monitor_leaves, monitor_rules, monitor_told_by}, SectionPolls.calling_after, MonitorHistories.MonitorLocked}
 use Rattle.fifo_buffer.specs.{MonitorHistories.{monitor_after, monitor_effect_by, monitor_entries, monitor_entry}, MonitorParts.{CallFits, CallGoes, Defers}}
 use Rattle.fifo_buffer.specs.MonitorParts.{AgreesWithStage, acted_at, ask_due, is_waking, is_woke, monitor_recorded, monitor_recorded_if, monitor_reply}
@@ -84,18 +84,18 @@ others_seen ActsFor Acts O others old new weaker foreign is = record {
 module _ {E B O : Type 0} (k : Kernel E B O) where
   all_own : (c : CpuId) (mine past : List (QueueEvent E)) → AllByRecursion (λ (e : QueueEvent E). e.cpu ≡ c) mine
       → AllByRecursion (λ (s : Step). s.cpu ≡ c) (moves_over k mine past)
-  all_own c [] past own = tt
-  all_own c (e ∷ mine) past own = (own.0, all_own c mine past own.1)
+  all_own c [] past local = tt
+  all_own c (e ∷ mine) past local = (local.0, all_own c mine past local.1)
 
   -- the moves grow by those of others, and then by this CPU's own
   pub moves_have_grown : (ActsFor Acts : CpuId → Type 0) (c : CpuId) (mine others old new : List (QueueEvent E))
       → ((d : CpuId) → Acts d → ActsFor d) → AreForeign ActsFor cpu_of_queue_event others → AllByRecursion (λ (e : QueueEvent E). e.cpu ≡ c) mine
       → new ≡ mine ++ (others ++ old) → MovesGrow Acts c (moves_in k old) (moves_in k new)
-  moves_have_grown ActsFor Acts c mine others old new weaker foreign own is = record {
+  moves_have_grown ActsFor Acts c mine others old new weaker foreign local is = record {
     others = moves_over k others old;
     mine = moves_over k mine (others ++ old);
     foreign = λ d acts. moves_others k d others old (foreign d (weaker d acts));
-    own = all_own c mine (others ++ old) own;
+    local = all_own c mine (others ++ old) local;
     is = ap (moves_in k) is
         ∙ moves_append k mine (others ++ old) ∙ ap (λ steps. moves_over k mine (others ++ old) ++ steps) (moves_append k others old);
   }
@@ -103,27 +103,27 @@ module _ {E B O : Type 0} (k : Kernel E B O) where
 -- A poll of a section.
 
 -- the call of a thread continues: it has begun, and its call state agrees with its stage
-pub record Begun (call : Call) (call_state : CallState) (own : Sleeping MonitorOut) : Type 0 where
+pub record Begun (call : Call) (call_state : CallState) (local : Sleeping MonitorReply) : Type 0 where
   pub called : call_state.call ≡ Some call
   pub begun : call_state.stage ≢ Idle
-  pub fits : AgreesWithStage call_state.stage call_state.effect
-  pub midway : Defers call_state.stage own.deferred own.threads.hand
+  pub coupled : AgreesWithStage call_state.stage call_state.effect
+  pub midway : Defers call_state.stage local.deferred local.threads.hand
 
 -- the state of a call after a poll: the poll returned no result; its thread sleeps, and tries again
 -- once it is woken; it wakes another next; or it is over
-pub data CallStands (t : Tid) (call : Call) (call_state later : CallState) (got : Left (Sleeping MonitorOut) (Outcome MonitorOut)) : Type 0 where
-  continues : got.answer ≡ None → later ≡ call_state → got.own.threads.current ≡ Some t
-      → Defers call_state.stage got.own.deferred got.own.threads.hand → CallStands t call call_state later got
-  sleeps : IsSome got.answer → later ≡ call_state → got.own.threads.current ≡ None → got.own.deferred ≡ None → CallStands t call call_state later got
-  goes : IsSome got.answer → is_waking later.stage ≡ true → later.call ≡ Some call → IsSome later.effect → got.own.threads.current ≡ Some t
-      → got.own.threads.hand ≡ None → got.own.deferred ≡ None → CallStands t call call_state later got
-  over : IsSome got.answer → later.stage ≡ Idle → (f : Effect) → later.effect ≡ Some f → got.own.threads.current ≡ Some t
-      → got.own.threads.hand ≡ None → got.own.deferred ≡ None → CallStands t call call_state later got
+pub data CallStands (t : Tid) (call : Call) (call_state later : CallState) (got : Left (Sleeping MonitorReply) (Outcome MonitorReply)) : Type 0 where
+  continues : got.answer ≡ None → later ≡ call_state → got.local.threads.current ≡ Some t
+      → Defers call_state.stage got.local.deferred got.local.threads.hand → CallStands t call call_state later got
+  sleeps : IsSome got.answer → later ≡ call_state → got.local.threads.current ≡ None → got.local.deferred ≡ None → CallStands t call call_state later got
+  goes : IsSome got.answer → is_waking later.stage ≡ true → later.call ≡ Some call → IsSome later.effect → got.local.threads.current ≡ Some t
+      → got.local.threads.hand ≡ None → got.local.deferred ≡ None → CallStands t call call_state later got
+  over : IsSome got.answer → later.stage ≡ Idle → (f : Effect) → later.effect ≡ Some f → got.local.threads.current ≡ Some t
+      → got.local.threads.hand ≡ None → got.local.deferred ≡ None → CallStands t call call_state later got
 
 -- what a poll of a section did
 pub record Did (opening : LockId → Option (QueueBlock MonitorLocked)) (ActsFor : CpuId → Type 0) (c : CpuId) (t : Tid) (call : Call)
-    (call_state later : CallState) (old new : List MonitorEvent) (own : Sleeping MonitorOut)
-    (got : Left (Sleeping MonitorOut) (Outcome MonitorOut)) : Type 0 where
+    (call_state later : CallState) (old new : List MonitorEvent) (local : Sleeping MonitorReply)
+    (got : Left (Sleeping MonitorReply) (Outcome MonitorReply)) : Type 0 where
   pub others : List MonitorEvent
   pub mine : List MonitorEvent
   pub foreign : AreForeign ActsFor cpu_of_queue_event others
@@ -134,11 +134,11 @@ pub record Did (opening : LockId → Option (QueueBlock MonitorLocked)) (ActsFor
       ≡ option_to_list (option_map (entry_of c t (buffer_of call)) effect) ++ monitor_entries (inner opening) (buffer_sections (others ++ old))
   pub fresh : (f : Effect) → effect ≡ Some f → (call_state.effect ≡ None) × (later.effect ≡ Some f) × IsEffectOf call f
   pub stays : effect ≡ None → later.effect ≡ call_state.effect
-  pub ended : got.own.threads.ended ≡ own.threads.ended
+  pub ended : got.local.threads.ended ≡ local.threads.ended
   pub stands : CallStands t call call_state later got
 
 -- the stage after a call had its effect
-stage_waking : (own : Side) (side : Side) → is_waking (stage_by own (Some side)) ≡ true
+stage_waking : (local : Side) (side : Side) → is_waking (stage_by local (Some side)) ≡ true
 stage_waking Receivers Receivers = refl
 stage_waking Receivers Senders = refl
 stage_waking Senders Receivers = refl
@@ -153,8 +153,8 @@ acted_effect call stage effect = grind arith
 
 -- the state of a call that had this effect, and whose thread runs
 acted_stands : (t : Tid) (call : Call) (call_state : CallState) (next : Option Side) (f : Effect) (effect : Option Effect)
-    (got : Left (Sleeping MonitorOut) (Outcome MonitorOut)) → effect ≡ Some f → IsSome got.answer → got.own.threads.current ≡ Some t
-    → got.own.threads.hand ≡ None → got.own.deferred ≡ None → CallStands t call call_state (acted_at call (stage_by (side_of call) next) effect) got
+    (got : Left (Sleeping MonitorReply) (Outcome MonitorReply)) → effect ≡ Some f → IsSome got.answer → got.local.threads.current ≡ Some t
+    → got.local.threads.hand ≡ None → got.local.deferred ≡ None → CallStands t call call_state (acted_at call (stage_by (side_of call) next) effect) got
 acted_stands t call call_state None f effect got has answered current hand deferred = over answered refl f has current hand deferred
 acted_stands t call call_state (Some side) f effect got has answered current hand deferred =
     let both = waking_call call (stage_by (side_of call) (Some side)) effect (stage_waking (side_of call) side) in
@@ -166,7 +166,7 @@ told_kind : (t : Tid) (call : Call) (x : MonitorState) (f : Effect) (next : Opti
 told_kind t call x f next is = grind arith
 
 -- a call that tries either acts or waits
-abbrev Tries : MonitorOut → Type 0
+abbrev Tries : MonitorReply → Type 0
 Tries (Acted f next) = Unit {0}
 Tries (Refused side) = Unit {0}
 Tries (Woke woke next) = ⊥
@@ -180,48 +180,48 @@ told_wakes t call stage x is = grind arith
 
 -- a call that wakes has had its effect, and one that does not tries
 waking_effect : (stage : Stage) (effect : Option Effect) → is_waking stage ≡ true → AgreesWithStage stage effect → (f : Effect) × (effect ≡ Some f)
-waking_effect stage None is fits = absurd (grind arith)
-waking_effect stage (Some f) is fits = (f, refl)
+waking_effect stage None is coupled = absurd (grind arith)
+waking_effect stage (Some f) is coupled = (f, refl)
 
 trying_stage : (stage : Stage) (effect : Option Effect) → is_waking stage ≡ false → stage ≢ Idle → AgreesWithStage stage effect
     → (stage ≡ Acquires) × (effect ≡ None)
-trying_stage stage effect is begun fits = grind arith
+trying_stage stage effect is begun coupled = grind arith
 
 -- what a section leaves that is done, if its outcome is returned, and if it is deferred
-left_returned : (o : Outcome MonitorOut) (threads : Threads) → must_send o threads ≡ false
-    → left_done o threads ≡ record { own = record { threads = threads; deferred = None }; answer = Some o }
+left_returned : (o : Outcome MonitorReply) (threads : Threads) → must_send o threads ≡ false
+    → left_done o threads ≡ record { local = record { threads = threads; deferred = None }; answer = Some o }
 left_returned o threads is = rw is refl
 
-left_deferred : (o : Outcome MonitorOut) (threads : Threads) → must_send o threads ≡ true
-    → left_done o threads ≡ record { own = record { threads = threads; deferred = Some o }; answer = None }
+left_deferred : (o : Outcome MonitorReply) (threads : Threads) → must_send o threads ≡ true
+    → left_done o threads ≡ record { local = record { threads = threads; deferred = Some o }; answer = None }
 left_deferred o threads is = rw is refl
 
-woke_recorded : (call : Call) (call_state : CallState) (out : MonitorOut) → is_woke out ≡ true
+woke_recorded : (call : Call) (call_state : CallState) (out : MonitorReply) → is_woke out ≡ true
     → (next : Option Side) × (monitor_recorded call call_state out ≡ acted_at call (stage_by (side_of call) next) call_state.effect)
 woke_recorded call call_state (Acted f next) is = absurd (cc is)
 woke_recorded call call_state (Refused side) is = absurd (cc is)
 woke_recorded call call_state (Woke woke next) is = (next, refl)
 
-module _ (homes : List CpuId) (c : CpuId) (t : Tid) (call : Call) (call_state : CallState) (own : Sleeping MonitorOut)
-    (current : own.threads.current ≡ Some t) (goes_on : Begun call call_state own) where
+module _ (homes : List CpuId) (c : CpuId) (t : Tid) (call : Call) (call_state : CallState) (local : Sleeping MonitorReply)
+    (current : local.threads.current ≡ Some t) (goes_on : Begun call call_state local) where
   -- a section was done with this outcome, and left this
-  pub record Done (o : Outcome MonitorOut) (l : Left (Sleeping MonitorOut) (Outcome MonitorOut)) : Type 0 where
+  pub record Done (o : Outcome MonitorReply) (l : Left (Sleeping MonitorReply) (Outcome MonitorReply)) : Type 0 where
     pub stands : CallStands t call call_state (monitor_recorded_if call call_state l.answer) l
-    pub ended : l.own.threads.ended ≡ own.threads.ended
+    pub ended : l.local.threads.ended ≡ local.threads.ended
     pub fresh : (f : Effect) → monitor_effect o.out ≡ Some f
         → (call_state.effect ≡ None) × ((monitor_recorded_if call call_state l.answer).effect ≡ Some f) × IsEffectOf call f
     pub stays : monitor_effect o.out ≡ None → (monitor_recorded_if call call_state l.answer).effect ≡ call_state.effect
 
   -- its thread had an effect
-  acted_done : (f : Effect) (next : Option Side) → own.threads.hand ≡ None → call_state.effect ≡ None → IsEffectOf call f
+  acted_done : (f : Effect) (next : Option Side) → local.threads.hand ≡ None → call_state.effect ≡ None → IsEffectOf call f
       → Done (record { out = Acted f next; slept = false; woke = None })
-      (left_done (record { out = Acted f next; slept = false; woke = None }) own.threads)
+      (left_done (record { out = Acted f next; slept = false; woke = None }) local.threads)
   acted_done f next hand none kind =
       subst (λ l. Done (record { out = Acted f next; slept = false; woke = None }) l)
-      (sym (left_returned (record { out = Acted f next; slept = false; woke = None }) own.threads (ap (λ (h : Option Tid). is_some h) hand)))
+      (sym (left_returned (record { out = Acted f next; slept = false; woke = None }) local.threads (ap (λ (h : Option Tid). is_some h) hand)))
       (record {
         stands = acted_stands t call call_state next f (Some f)
-            (record { own = record { threads = own.threads; deferred = None }; answer = Some (record { out = Acted f next; slept = false; woke = None }) })
+            (record { local = record { threads = local.threads; deferred = None }; answer = Some (record { out = Acted f next; slept = false; woke = None }) })
             refl refl current hand refl;
         ended = refl;
         fresh = λ g is. (none, acted_effect call (stage_by (side_of call) next) (Some f) ∙ is, subst (IsEffectOf call) (same_Some f g is) kind);
@@ -230,7 +230,7 @@ module _ (homes : List CpuId) (c : CpuId) (t : Tid) (call : Call) (call_state : 
 
   -- its thread waits
   refused_done : (side : Side) → Done (record { out = Refused side; slept = true; woke = None })
-      (left_done (record { out = Refused side; slept = true; woke = None }) (own_slept (monitor_joins (Refused side)) own.threads))
+      (left_done (record { out = Refused side; slept = true; woke = None }) (own_slept (monitor_joins (Refused side)) local.threads))
   refused_done Receivers = record {
     stands = sleeps refl refl refl refl;
     ended = refl;
@@ -245,39 +245,39 @@ module _ (homes : List CpuId) (c : CpuId) (t : Tid) (call : Call) (call_state : 
   }
 
   -- its thread woke another, or no thread
-  woke_done : (o : Outcome MonitorOut) → is_waking call_state.stage ≡ true → is_woke o.out ≡ true → o.slept ≡ false
-      → Done o (left_done o (own_woken homes c o.woke own.threads))
-  woke_done o waking woke awake = go (must_send o (own_woken homes c o.woke own.threads)) refl
+  woke_done : (o : Outcome MonitorReply) → is_waking call_state.stage ≡ true → is_woke o.out ≡ true → o.slept ≡ false
+      → Done o (left_done o (own_woken homes c o.woke local.threads))
+  woke_done o waking woke awake = go (must_send o (own_woken homes c o.woke local.threads)) refl
     where
       had : (f : Effect) × (call_state.effect ≡ Some f)
-      had = waking_effect call_state.stage call_state.effect waking goes_on.fits
+      had = waking_effect call_state.stage call_state.effect waking goes_on.coupled
 
-      runs : (own_woken homes c o.woke own.threads).current ≡ Some t
-      runs = woken_current homes c o.woke own.threads ∙ current
+      runs : (own_woken homes c o.woke local.threads).current ≡ Some t
+      runs = woken_current homes c o.woke local.threads ∙ current
 
-      ends : (woke : Option Tid) → (own_woken homes c woke own.threads).ended ≡ own.threads.ended
+      ends : (woke : Option Tid) → (own_woken homes c woke local.threads).ended ≡ local.threads.ended
       ends woke = grind arith
 
-      none_of : (out : MonitorOut) → is_woke out ≡ true → monitor_effect out ≡ None
+      none_of : (out : MonitorReply) → is_woke out ≡ true → monitor_effect out ≡ None
       none_of out is = grind arith
 
       empty : (hand : Option Tid) → (not o.slept && is_some hand) ≡ false → hand ≡ None
       empty hand is = grind (arith, awake)
 
-      go : (v : Bool) → must_send o (own_woken homes c o.woke own.threads) ≡ v → Done o (left_done o (own_woken homes c o.woke own.threads))
-      go true sends = subst (Done o) (sym (left_deferred o (own_woken homes c o.woke own.threads) sends)) (record {
+      go : (v : Bool) → must_send o (own_woken homes c o.woke local.threads) ≡ v → Done o (left_done o (own_woken homes c o.woke local.threads))
+      go true sends = subst (Done o) (sym (left_deferred o (own_woken homes c o.woke local.threads) sends)) (record {
         stands = continues refl refl runs (waking, woke);
         ended = ends o.woke;
         fresh = λ f is. absurd (cc (none_of o.out woke, is));
         stays = λ no. refl;
       })
-      go false returns = subst (Done o) (sym (left_returned o (own_woken homes c o.woke own.threads) returns)) (record {
+      go false returns = subst (Done o) (sym (left_returned o (own_woken homes c o.woke local.threads) returns)) (record {
         stands = subst (λ later. CallStands t call call_state later
-            (record { own = record { threads = own_woken homes c o.woke own.threads; deferred = None }; answer = Some o }))
+            (record { local = record { threads = own_woken homes c o.woke local.threads; deferred = None }; answer = Some o }))
             (sym (woke_recorded call call_state o.out woke).1)
             (acted_stands t call call_state (woke_recorded call call_state o.out woke).0 had.0 call_state.effect
-            (record { own = record { threads = own_woken homes c o.woke own.threads; deferred = None }; answer = Some o }) had.1 refl runs
-            (empty (own_woken homes c o.woke own.threads).hand returns) refl);
+            (record { local = record { threads = own_woken homes c o.woke local.threads; deferred = None }; answer = Some o }) had.1 refl runs
+            (empty (own_woken homes c o.woke local.threads).hand returns) refl);
         ended = ends o.woke;
         fresh = λ f is. absurd (cc (none_of o.out woke, is));
         stays = λ no. ap (λ (s : CallState). s.effect) (woke_recorded call call_state o.out woke).1
@@ -285,44 +285,44 @@ module _ (homes : List CpuId) (c : CpuId) (t : Tid) (call : Call) (call_state : 
       })
 
   -- what any section of the call leaves that is done
-  section_done : (state : MonitorLocked) (v : Bool) → is_waking call_state.stage ≡ v → own.deferred ≡ None
+  section_done : (state : MonitorLocked) (v : Bool) → is_waking call_state.stage ≡ v → local.deferred ≡ None
       → Done (sleep_answer monitor_rules (monitor_section t call call_state.stage) state)
       (left_done (sleep_answer monitor_rules (monitor_section t call call_state.stage) state)
-      (own_answered (sleep_moves monitor_rules) homes c (Some (sleep_answer monitor_rules (monitor_section t call call_state.stage) state)) own.threads))
+      (own_answered (sleep_moves monitor_rules) homes c (Some (sleep_answer monitor_rules (monitor_section t call call_state.stage) state)) local.threads))
   section_done state true waking rests = wakes state (told_wakes t call call_state.stage state.above waking)
     where
-      wakes_on : (out : MonitorOut) → is_woke out ≡ true → monitor_joins out ≡ None
+      wakes_on : (out : MonitorReply) → is_woke out ≡ true → monitor_joins out ≡ None
       wakes_on out is = grind arith
 
       wakes : (s : MonitorLocked) → is_woke (monitor_told_by t (ask_due call_state.stage call) s.above) ≡ true
           → Done (sleep_answer monitor_rules (monitor_section t call call_state.stage) s)
           (left_done (sleep_answer monitor_rules (monitor_section t call call_state.stage) s)
-          (own_answered (sleep_moves monitor_rules) homes c (Some (sleep_answer monitor_rules (monitor_section t call call_state.stage) s)) own.threads))
+          (own_answered (sleep_moves monitor_rules) homes c (Some (sleep_answer monitor_rules (monitor_section t call call_state.stage) s)) local.threads))
       wakes s woke =
           let joins = wakes_on (monitor_told_by t (ask_due call_state.stage call) s.above) woke in
           let o = sleep_answer monitor_rules (monitor_section t call call_state.stage) s in
-          subst (λ (w : Option WaitList). Done o (left_done o (own_woken homes c o.woke (own_slept w own.threads)))) (sym joins)
+          subst (λ (w : Option WaitList). Done o (left_done o (own_woken homes c o.woke (own_slept w local.threads)))) (sym joins)
           (woke_done o waking woke (ap (λ (w : Option WaitList). is_some w) joins))
   section_done state false trying rests =
-      let stage = trying_stage call_state.stage call_state.effect trying goes_on.begun goes_on.fits in
-      let hand : own.threads.hand ≡ None
-      = subst (λ (o : Option (Outcome MonitorOut)). Defers call_state.stage o own.threads.hand) rests goes_on.midway in
+      let stage = trying_stage call_state.stage call_state.effect trying goes_on.begun goes_on.coupled in
+      let hand : local.threads.hand ≡ None
+      = subst (λ (o : Option (Outcome MonitorReply)). Defers call_state.stage o local.threads.hand) rests goes_on.midway in
       subst (λ (s : Stage). Done (sleep_answer monitor_rules (monitor_section t call s) state)
       (left_done (sleep_answer monitor_rules (monitor_section t call s) state)
-      (own_answered (sleep_moves monitor_rules) homes c (Some (sleep_answer monitor_rules (monitor_section t call s) state)) own.threads)))
+      (own_answered (sleep_moves monitor_rules) homes c (Some (sleep_answer monitor_rules (monitor_section t call s) state)) local.threads)))
       (sym stage.0) (tries (monitor_told_by t (ask_due Acquires call) state.above) refl (told_tries t call state.above) hand stage.1)
     where
       -- the outcome with this result
-      outcome : MonitorOut → Outcome MonitorOut
+      outcome : MonitorReply → Outcome MonitorReply
       outcome out = record {
         out = out;
         slept = is_some (monitor_joins out);
         woke = woken_by (monitor_leaves out) state.sleepers state.receivers state.senders;
       }
 
-      tries : (out : MonitorOut) → monitor_told_by t (ask_due Acquires call) state.above ≡ out → Tries out → own.threads.hand ≡ None
+      tries : (out : MonitorReply) → monitor_told_by t (ask_due Acquires call) state.above ≡ out → Tries out → local.threads.hand ≡ None
           → call_state.effect ≡ None
-          → Done (outcome out) (left_done (outcome out) (own_answered (sleep_moves monitor_rules) homes c (Some (outcome out)) own.threads))
+          → Done (outcome out) (left_done (outcome out) (own_answered (sleep_moves monitor_rules) homes c (Some (outcome out)) local.threads))
       tries (Acted f next) is may hand none =
           acted_done f next hand none (told_kind t call state.above f next is)
       tries (Refused Receivers) is may hand none = refused_done Receivers
@@ -330,13 +330,13 @@ module _ (homes : List CpuId) (c : CpuId) (t : Tid) (call : Call) (call_state : 
       tries (Woke woke next) is may hand none = absurd may
 
 module _ (opening : LockId → Option (QueueBlock MonitorLocked)) {ActsFor : CpuId → Type 0} (c : CpuId) (t : Tid) (call : Call) (call_state : CallState)
-    (old new : List MonitorEvent) (own : Sleeping MonitorOut) (got : Left (Sleeping MonitorOut) (Outcome MonitorOut))
-    (current : own.threads.current ≡ Some t) (goes_on : Begun call call_state own)
-    (polled : SleepPolled (sleep_kernel monitor_rules opening) ActsFor c (buffer_of call) (monitor_section t call call_state.stage) old new own got) where
+    (old new : List MonitorEvent) (local : Sleeping MonitorReply) (got : Left (Sleeping MonitorReply) (Outcome MonitorReply))
+    (current : local.threads.current ≡ Some t) (goes_on : Begun call call_state local)
+    (polled : SleepPolled (sleep_kernel monitor_rules opening) ActsFor c (buffer_of call) (monitor_section t call call_state.stage) old new local got) where
   abbrev before : List MonitorEvent
   before = polled.others ++ old
 
-  abbrev k : Kernel MonitorEdit MonitorLocked (Outcome MonitorOut)
+  abbrev k : Kernel MonitorEdit MonitorLocked (Outcome MonitorReply)
   k = sleep_kernel monitor_rules opening
 
   abbrev e : MonitorEdit
@@ -346,16 +346,17 @@ module _ (opening : LockId → Option (QueueBlock MonitorLocked)) {ActsFor : Cpu
   entries log = monitor_entries (inner opening) (buffer_sections log)
 
   -- what the poll did, if it left this
-  abbrev DidLeave : Left (Sleeping MonitorOut) (Outcome MonitorOut) → Type 0
-  DidLeave l = Did opening ActsFor c t call call_state (monitor_recorded_if call call_state l.answer) old new own l
+  abbrev DidLeave : Left (Sleeping MonitorReply) (Outcome MonitorReply) → Type 0
+  DidLeave l = Did opening ActsFor c t call call_state (monitor_recorded_if call call_state l.answer) old new local l
 
   -- the section was done
-  does : (outcome : Outcome MonitorOut) (state : MonitorLocked) → monitor_after (inner opening) (Buffer (buffer_of call)) (buffer_sections before) ≡ Some state
-      → sleep_answer monitor_rules e state ≡ outcome → own.deferred ≡ None → new ≡ event c (OnBuffer (buffer_of call) e) ∷ before
-      → DidLeave (left_done outcome (own_answered k.moves k.homes c (Some outcome) own.threads))
+  does : (outcome : Outcome MonitorReply) (state : MonitorLocked)
+      → monitor_after (inner opening) (Buffer (buffer_of call)) (buffer_sections before) ≡ Some state
+      → sleep_answer monitor_rules e state ≡ outcome → local.deferred ≡ None → new ≡ event c (OnBuffer (buffer_of call) e) ∷ before
+      → DidLeave (left_done outcome (own_answered k.moves k.homes c (Some outcome) local.threads))
   does outcome state at out rests is =
-      subst (λ o. DidLeave (left_done o (own_answered k.moves k.homes c (Some o) own.threads))) out
-      (let done = section_done k.homes c t call call_state own current goes_on state (is_waking call_state.stage) refl rests in
+      subst (λ o. DidLeave (left_done o (own_answered k.moves k.homes c (Some o) local.threads))) out
+      (let done = section_done k.homes c t call call_state local current goes_on state (is_waking call_state.stage) refl rests in
       record {
         others = polled.others;
         mine = event c (OnBuffer (buffer_of call) e) ∷ [];
@@ -371,21 +372,21 @@ module _ (opening : LockId → Option (QueueBlock MonitorLocked)) {ActsFor : Cpu
         stands = done.stands;
       })
 
-  done_at : (outcome : Outcome MonitorOut) (o : Option MonitorLocked)
+  done_at : (outcome : Outcome MonitorReply) (o : Option MonitorLocked)
       → monitor_after (inner opening) (Buffer (buffer_of call)) (buffer_sections before) ≡ o → option_map (sleep_answer monitor_rules e) o ≡ Some outcome
-      → own.deferred ≡ None → new ≡ event c (OnBuffer (buffer_of call) e) ∷ before
-      → DidLeave (left_done outcome (own_answered k.moves k.homes c (Some outcome) own.threads))
+      → local.deferred ≡ None → new ≡ event c (OnBuffer (buffer_of call) e) ∷ before
+      → DidLeave (left_done outcome (own_answered k.moves k.homes c (Some outcome) local.threads))
   done_at outcome None at out rests is = absurd (cc out)
   done_at outcome (Some state) at out rests is = does outcome state at (same_Some (sleep_answer monitor_rules e state) outcome out) rests is
 
   -- the thread that the section woke was forwarded to its home
-  sent_home : (u : Tid) (o : Option (Outcome MonitorOut)) → IsSome o → Defers call_state.stage o own.threads.hand
+  sent_home : (u : Tid) (o : Option (Outcome MonitorReply)) → IsSome o → Defers call_state.stage o local.threads.hand
       → new ≡ event c (Push (queue_for k.homes c u) u) ∷ before
-      → DidLeave (record { own = record { threads = passed_on own.threads; deferred = None }; answer = o })
+      → DidLeave (record { local = record { threads = passed_on local.threads; deferred = None }; answer = o })
   sent_home u None some defers is = absurd (cc some)
   sent_home u (Some outcome) some defers is =
       let next = woke_recorded call call_state outcome.out defers.1 in
-      let had = waking_effect call_state.stage call_state.effect defers.0 goes_on.fits in
+      let had = waking_effect call_state.stage call_state.effect defers.0 goes_on.coupled in
       record {
         others = polled.others;
         mine = event c (Push (queue_for k.homes c u) u) ∷ [];
@@ -398,17 +399,17 @@ module _ (opening : LockId → Option (QueueBlock MonitorLocked)) {ActsFor : Cpu
         stays = λ none. ap (λ (s : CallState). s.effect) next.1 ∙ acted_effect call (stage_by (side_of call) next.0) call_state.effect;
         ended = refl;
         stands = subst (λ later. CallStands t call call_state later
-            (record { own = record { threads = passed_on own.threads; deferred = None }; answer = Some outcome }))
+            (record { local = record { threads = passed_on local.threads; deferred = None }; answer = Some outcome }))
             (sym next.1) (acted_stands t call call_state next.0 had.0 call_state.effect
-            (record { own = record { threads = passed_on own.threads; deferred = None }; answer = Some outcome }) had.1 refl current refl refl);
+            (record { local = record { threads = passed_on local.threads; deferred = None }; answer = Some outcome }) had.1 refl current refl refl);
       }
 
   -- what the poll did
   pub poll_did : DidLeave got
   poll_did = go polled.poll_result polled.may polled.is polled.leaves
     where
-      go : (r : PollResult MonitorOut) → MayDo k c (buffer_of call) e r before own → new ≡ seen_with k c (buffer_of call) e r before
-          → got ≡ left_with k c (buffer_of call) e r own → DidLeave got
+      go : (r : PollResult MonitorReply) → MayDo k c (buffer_of call) e r before local → new ≡ seen_with k c (buffer_of call) e r before
+          → got ≡ left_with k c (buffer_of call) e r local → DidLeave got
       go WaitsStill may is leaves = subst DidLeave (sym leaves) (record {
         others = polled.others;
         mine = [];
@@ -424,7 +425,7 @@ module _ (opening : LockId → Option (QueueBlock MonitorLocked)) {ActsFor : Cpu
       })
       go (Does outcome) may is leaves =
           subst DidLeave (sym leaves) (done_at outcome (monitor_after (inner opening) (Buffer (buffer_of call)) (buffer_sections before)) refl may.1 may.0 is)
-      go (SendsHome u) may is leaves = subst DidLeave (sym leaves) (sent_home u own.deferred may.0 goes_on.midway is)
+      go (SendsHome u) may is leaves = subst DidLeave (sym leaves) (sent_home u local.deferred may.0 goes_on.midway is)
 
 -- What a poll of a call leaves.
 
@@ -447,7 +448,7 @@ over_reply : (call : Call) (later : CallState) (f : Effect) → later.stage ≡ 
 over_reply call later f idle effect = λ i. monitor_reply_at call (idle i) (effect i)
 
 -- the result agrees with the call state
-pub answers_so : (t : Tid) (call : Call) (call_state later : CallState) (got : Left (Sleeping MonitorOut) (Outcome MonitorOut))
+pub answers_so : (t : Tid) (call : Call) (call_state later : CallState) (got : Left (Sleeping MonitorReply) (Outcome MonitorReply))
     → call_state.call ≡ Some call → call_state.stage ≢ Idle → CallStands t call call_state later got → Answered call later (monitor_reply call later)
 answers_so t call call_state later got called begun (continues none same current defers) = grind arith
 answers_so t call call_state later got called begun (sleeps some same current rests) = grind arith
@@ -455,43 +456,43 @@ answers_so t call call_state later got called begun (goes some waking is effect 
 answers_so t call call_state later got called begun (over some idle f effect current hand rests) = grind arith
 
 -- the thread runs on, or sleeps
-pub runs_so : (t : Tid) (call : Call) (call_state later : CallState) (own : Threads) (got : Left (Sleeping MonitorOut) (Outcome MonitorOut))
-    → call_state.stage ≢ Idle → got.own.threads.ended ≡ own.ended → CallStands t call call_state later got
-    → RunsOn t own got.own.threads (monitor_reply call later)
-runs_so t call call_state later own got begun ended (continues none same current defers) =
+pub runs_so : (t : Tid) (call : Call) (call_state later : CallState) (local : Threads) (got : Left (Sleeping MonitorReply) (Outcome MonitorReply))
+    → call_state.stage ≢ Idle → got.local.threads.ended ≡ local.ended → CallStands t call call_state later got
+    → RunsOn t local got.local.threads (monitor_reply call later)
+runs_so t call call_state later local got begun ended (continues none same current defers) =
     record { current = inl current; hand = λ a is. absurd (grind arith); ended = ended }
-runs_so t call call_state later own got begun ended (sleeps some same current rests) =
+runs_so t call call_state later local got begun ended (sleeps some same current rests) =
     record { current = inr (current, grind arith); hand = λ a is. absurd (grind arith); ended = ended }
-runs_so t call call_state later own got begun ended (goes some waking is effect current hand rests) =
+runs_so t call call_state later local got begun ended (goes some waking is effect current hand rests) =
     record { current = inl current; hand = λ a is. hand; ended = ended }
-runs_so t call call_state later own got begun ended (over some idle f effect current hand rests) =
+runs_so t call call_state later local got begun ended (over some idle f effect current hand rests) =
     record { current = inl current; hand = λ a is. hand; ended = ended }
 
 -- the call state agrees with its stage
-pub stage_so : (t : Tid) (call : Call) (call_state later : CallState) (got : Left (Sleeping MonitorOut) (Outcome MonitorOut))
+pub stage_so : (t : Tid) (call : Call) (call_state later : CallState) (got : Left (Sleeping MonitorReply) (Outcome MonitorReply))
     → AgreesWithStage call_state.stage call_state.effect → CallStands t call call_state later got → AgreesWithStage later.stage later.effect
-stage_so t call call_state later got fits (continues none same current defers) = rw same fits
-stage_so t call call_state later got fits (sleeps some same current rests) = rw same fits
-stage_so t call call_state later got fits (goes some waking is effect current hand rests) = grind arith
-stage_so t call call_state later got fits (over some idle f effect current hand rests) = rw idle tt
+stage_so t call call_state later got coupled (continues none same current defers) = rw same coupled
+stage_so t call call_state later got coupled (sleeps some same current rests) = rw same coupled
+stage_so t call call_state later got coupled (goes some waking is effect current hand rests) = grind arith
+stage_so t call call_state later got coupled (over some idle f effect current hand rests) = rw idle tt
 
 -- whose call is under way, if its thread runs on, and if it sleeps
 goes_calling : (t : Tid) (current : Option Tid) (reply : Option Reply) → current ≡ Some t → reply ≡ None → calling_after t current reply ≡ Some t
 goes_calling t current reply runs silent = λ i. calling_after t (runs i) (silent i)
 
-module _ (t : Tid) (call : Call) (call_state later : CallState) (got : Left (Sleeping MonitorOut) (Outcome MonitorOut)) where
+module _ (t : Tid) (call : Call) (call_state later : CallState) (got : Left (Sleeping MonitorReply) (Outcome MonitorReply)) where
   abbrev asked : SchedCall MonitorEdit
   asked = sched.OnBuffer (buffer_of call) (monitor_section t call call_state.stage)
 
   -- and what is under way agrees with it
   pub call_so : (call_states : List CallState) → call_state_of call_states t ≡ later → call_state.call ≡ Some call → call_state.stage ≢ Idle
       → CallStands t call call_state later got
-      → CallFits (calling_after t got.own.threads.current (monitor_reply call later)) (until_answered got.answer asked) got.own call_states
+      → CallFits (calling_after t got.local.threads.current (monitor_reply call later)) (until_answered got.answer asked) got.local call_states
   call_so call_states at called begun (continues none same current defers) =
-      subst (λ o. CallFits o (until_answered got.answer asked) got.own call_states)
-      (sym (goes_calling t got.own.threads.current (monitor_reply call later) current (same_reply call call_state later same begun)))
-      (subst (λ o. CallFits (Some t) (until_answered o asked) got.own call_states) (sym none)
-      (subst (λ (s : CallState). CallGoes t (Some asked) got.own s) (sym (at ∙ same)) (record {
+      subst (λ o. CallFits o (until_answered got.answer asked) got.local call_states)
+      (sym (goes_calling t got.local.threads.current (monitor_reply call later) current (same_reply call call_state later same begun)))
+      (subst (λ o. CallFits (Some t) (until_answered o asked) got.local call_states) (sym none)
+      (subst (λ (s : CallState). CallGoes t (Some asked) got.local s) (sym (at ∙ same)) (record {
         call = call;
         is = called;
         begun = begun;
@@ -499,14 +500,14 @@ module _ (t : Tid) (call : Call) (call_state later : CallState) (got : Left (Sle
         section = (refl, refl, defers);
       })))
   call_so call_states at called begun (sleeps some same current rests) =
-      subst (λ o. CallFits (calling_after t o (monitor_reply call later)) (until_answered got.answer asked) got.own call_states) (sym current)
-      (subst (λ o. CallFits None o got.own call_states) (sym (until_some got.answer asked some)) (tt, rests))
+      subst (λ o. CallFits (calling_after t o (monitor_reply call later)) (until_answered got.answer asked) got.local call_states) (sym current)
+      (subst (λ o. CallFits None o got.local call_states) (sym (until_some got.answer asked some)) (tt, rests))
   call_so call_states at called begun (goes some waking is effect current hand rests) =
-      subst (λ o. CallFits o (until_answered got.answer asked) got.own call_states)
-      (sym (goes_calling t got.own.threads.current (monitor_reply call later) current (no_reply call later.stage later.effect
+      subst (λ o. CallFits o (until_answered got.answer asked) got.local call_states)
+      (sym (goes_calling t got.local.threads.current (monitor_reply call later) current (no_reply call later.stage later.effect
       (not_idle later.stage waking))))
-      (subst (λ o. CallFits (Some t) o got.own call_states) (sym (until_some got.answer asked some))
-      (subst (λ (s : CallState). CallGoes t None got.own s) (sym at) (record {
+      (subst (λ o. CallFits (Some t) o got.local call_states) (sym (until_some got.answer asked some))
+      (subst (λ (s : CallState). CallGoes t None got.local s) (sym at) (record {
         call = call;
         is = is;
         begun = not_idle later.stage waking;
@@ -514,17 +515,17 @@ module _ (t : Tid) (call : Call) (call_state later : CallState) (got : Left (Sle
         section = (hand, rests);
       })))
   call_so call_states at called begun (over some idle f effect current hand rests) =
-      subst (λ o. CallFits (calling_after t o (monitor_reply call later)) (until_answered got.answer asked) got.own call_states) (sym current)
-      (subst (λ o. CallFits (calling_after t (Some t) o) (until_answered got.answer asked) got.own call_states)
+      subst (λ o. CallFits (calling_after t o (monitor_reply call later)) (until_answered got.answer asked) got.local call_states) (sym current)
+      (subst (λ o. CallFits (calling_after t (Some t) o) (until_answered got.answer asked) got.local call_states)
       (sym (over_reply call later f idle effect))
-      (subst (λ o. CallFits None o got.own call_states) (sym (until_some got.answer asked some)) (tt, rests)))
+      (subst (λ o. CallFits None o got.local call_states) (sym (until_some got.answer asked some)) (tt, rests)))
 
-pub under_so : (t : Tid) (call : Call) (call_state later : CallState) (got : Left (Sleeping MonitorOut) (Outcome MonitorOut))
+pub under_so : (t : Tid) (call : Call) (call_state later : CallState) (got : Left (Sleeping MonitorReply) (Outcome MonitorReply))
     (under_way : Option (SchedCall MonitorEdit))
     → under_way ≡ until_answered got.answer (sched.OnBuffer (buffer_of call) (monitor_section t call call_state.stage))
     → call_state.stage ≢ Idle → CallStands t call call_state later got
-    → monitor_under (calling_after t got.own.threads.current (monitor_reply call later)) under_way
-    ≡ still_calling t got.own.threads.current (monitor_reply call later)
+    → monitor_under (calling_after t got.local.threads.current (monitor_reply call later)) under_way
+    ≡ still_calling t got.local.threads.current (monitor_reply call later)
 under_so t call call_state later got under_way is begun (continues none same current defers) = grind arith
 under_so t call call_state later got under_way is begun (sleeps some same current rests) = grind arith
 under_so t call call_state later got under_way is begun (goes some waking was effect current hand rests) = grind arith
@@ -533,15 +534,15 @@ under_so t call call_state later got under_way is begun (over some idle f effect
 -- Before a poll of a call.
 
 -- its section may be polled, and the call continues
-pub record MayPollSo (k : Kernel MonitorEdit MonitorLocked (Outcome MonitorOut)) (c : CpuId) (past : List MonitorEvent) (t : Tid) (call : Call)
-    (call_state : CallState) (own : Sleeping MonitorOut) (under_way : Option (SchedCall MonitorEdit)) : Type 0 where
+pub record MayPollSo (k : Kernel MonitorEdit MonitorLocked (Outcome MonitorReply)) (c : CpuId) (past : List MonitorEvent) (t : Tid) (call : Call)
+    (call_state : CallState) (local : Sleeping MonitorReply) (under_way : Option (SchedCall MonitorEdit)) : Type 0 where
   pub may : MayCall under_way (sched.OnBuffer (buffer_of call) (monitor_section t call call_state.stage))
-      (MaySleep k c past own.threads (buffer_of call) (monitor_section t call call_state.stage))
-  pub goes : Begun call call_state own
+      (MaySleep k c past local.threads (buffer_of call) (monitor_section t call call_state.stage))
+  pub goes : Begun call call_state local
 
 going_fits : (call_state : CallState) (call : Call) → AgreesWithStage call_state.stage call_state.effect
     → AgreesWithStage (going call_state call).stage (going call_state call).effect
-going_fits call_state call fits = grind arith
+going_fits call_state call coupled = grind arith
 
 going_begun : (call_state : CallState) (call : Call) → (going call_state call).stage ≢ Idle
 going_begun call_state call is = grind arith
@@ -549,37 +550,37 @@ going_begun call_state call is = grind arith
 going_same : (call_state : CallState) (call : Call) → call_state.stage ≢ Idle → going call_state call ≡ call_state
 going_same call_state call begun = grind arith
 
-module _ (opening : LockId → Option (QueueBlock MonitorLocked)) (c : CpuId) (past : List MonitorEvent) (t : Tid) (call : Call) (own : Sleeping MonitorOut)
-    (call_states : List CallState) (runs : own.threads.current ≡ Some t) (may : MayPollCall (call_state_of call_states t) call)
+module _ (opening : LockId → Option (QueueBlock MonitorLocked)) (c : CpuId) (past : List MonitorEvent) (t : Tid) (call : Call) (local : Sleeping MonitorReply)
+    (call_states : List CallState) (runs : local.threads.current ≡ Some t) (may : MayPollCall (call_state_of call_states t) call)
     (stages : AgreesWithStage (call_state_of call_states t).stage (call_state_of call_states t).effect) where
   abbrev this : CallState
   this = going (call_state_of call_states t) call
 
   -- a section begins
-  begins : own.threads.hand ≡ None → own.deferred ≡ None → MayPollSo (sleep_kernel monitor_rules opening) c past t call this own None
+  begins : local.threads.hand ≡ None → local.deferred ≡ None → MayPollSo (sleep_kernel monitor_rules opening) c past t call this local None
   begins hand rests = record {
     may = record { current = runs; hand = hand; stays = λ more others lawful. tt };
     goes = record {
       called = may;
       begun = going_begun (call_state_of call_states t) call;
-      fits = going_fits (call_state_of call_states t) call stages;
-      midway = subst (λ (o : Option (Outcome MonitorOut)). Defers this.stage o own.threads.hand) (sym rests) hand;
+      coupled = going_fits (call_state_of call_states t) call stages;
+      midway = subst (λ (o : Option (Outcome MonitorReply)). Defers this.stage o local.threads.hand) (sym rests) hand;
     };
   }
 
-  pub poll_may : (under_way : Option (SchedCall MonitorEdit)) (calling : Option Tid) → CallFits calling under_way own call_states
-      → (monitor_under calling under_way ≡ None → own.threads.hand ≡ None) → MayGoOn (monitor_under calling under_way) (Calling t)
-      → MayPollSo (sleep_kernel monitor_rules opening) c past t call this own under_way
-  poll_may None None fits hand goes_on = begins (hand refl) fits.1
-  poll_may (Some (sched.Pass p)) None fits hand goes_on = absurd (cc goes_on)
-  poll_may (Some (sched.OnBuffer b e)) None fits hand goes_on = absurd fits.0
-  poll_may under_way (Some v) fits hand goes_on = go under_way (subst (λ u. CallGoes u under_way own (call_state_of call_states u)) same fits)
+  pub poll_may : (under_way : Option (SchedCall MonitorEdit)) (calling : Option Tid) → CallFits calling under_way local call_states
+      → (monitor_under calling under_way ≡ None → local.threads.hand ≡ None) → MayGoOn (monitor_under calling under_way) (Calling t)
+      → MayPollSo (sleep_kernel monitor_rules opening) c past t call this local under_way
+  poll_may None None coupled hand goes_on = begins (hand refl) coupled.1
+  poll_may (Some (sched.Pass p)) None coupled hand goes_on = absurd (cc goes_on)
+  poll_may (Some (sched.OnBuffer b e)) None coupled hand goes_on = absurd coupled.0
+  poll_may under_way (Some v) coupled hand goes_on = go under_way (subst (λ u. CallGoes u under_way local (call_state_of call_states u)) same coupled)
     where
       same : v ≡ t
       same = cc goes_on
 
-      go : (w : Option (SchedCall MonitorEdit)) → CallGoes t w own (call_state_of call_states t)
-          → MayPollSo (sleep_kernel monitor_rules opening) c past t call this own w
+      go : (w : Option (SchedCall MonitorEdit)) → CallGoes t w local (call_state_of call_states t)
+          → MayPollSo (sleep_kernel monitor_rules opening) c past t call this local w
       go None its = begins its.section.0 its.section.1
       go (Some (sched.Pass p)) its = absurd its.section
       go (Some (sched.OnBuffer b e)) its =
@@ -592,7 +593,7 @@ module _ (opening : LockId → Option (QueueBlock MonitorLocked)) (c : CpuId) (p
             goes = record {
               called = may;
               begun = going_begun (call_state_of call_states t) call;
-              fits = going_fits (call_state_of call_states t) call stages;
-              midway = subst (λ (s : CallState). Defers s.stage own.deferred own.threads.hand) (sym stays) its.section.2;
+              coupled = going_fits (call_state_of call_states t) call stages;
+              midway = subst (λ (s : CallState). Defers s.stage local.deferred local.threads.hand) (sym stays) its.section.2;
             };
           }

@@ -5,7 +5,7 @@ use Rattle.std.proofs.{Common.{◌∷◌, replicate, subst}, Math.Path.fun_ext, 
 use Rattle.event_log.specs.declared.ids.{BufId.BufId, LockId.{LockId, TheVariants.Buffer}, CpuId.CpuId, Tid.Tid, TheConstants.THREADS}
 use Rattle.layer_traits.specs.Blocks.{Capacities.{caps_in, caps_from}, BufferBlocks.{BufferState, empty_block}, BufferEffects.{fresh_lock, opening_locks}}
 use Rattle.layer_traits.specs.{Blocks.{BufferProtocol.BufferLock, QueueBlocks.{StartsAs, inner}}, declared.queue_edits.QueueBlock.QueueBlock}
-use Rattle.layer_traits.specs.{declared.{buffer_edits.BufferOut.BufferOut, locked.Side.Side, call_states.CallState.CallState}, Layers.BufferLaw.no_call}
+use Rattle.layer_traits.specs.{declared.{buffer_edits.BufferReply.BufferReply, locked.Side.Side, call_states.CallState.CallState}, Layers.BufferLaw.no_call}
 use Rattle.layer_traits.specs.Layers.{BufferLaw.call_state_of, CvLaw.{Waiting, waiting_at_start}, QLockLaw.slept_for, QLocking.AreAtRest}
 use Rattle.layer_traits.{specs.{Layers.Queues.{buffer_sections, moves_in}, Threads.Places.count_in}, proofs.CapacityLemmas.caps_observed}
 use Rattle.fifo_buffer.specs.{FifoFits.{BootsSo, PartFits}, Stances.{IsFreeOf, CallStateFits, line_at}, SectionPolls.{BufferEvent, FitsAt}}
@@ -71,23 +71,23 @@ no_call_fits opening boots t slept waits call_state slept_none waits_none is =
       waits_none = waits_none;
     })
 
-pub start_fits : (opening : LockId → Option (QueueBlock BufferLock)) (homes : List CpuId) (c d : CpuId) (past : List BufferEvent) (own : Waiting BufferOut)
-    (call_states : List CallState) → BootsSo opening → past ≡ [] → own ≡ waiting_at_start homes c → call_states ≡ replicate THREADS no_call
-    → PartFits opening d past own call_states None None
-start_fits opening homes c d past own call_states boots none own_is call_states_are = record {
+pub start_fits : (opening : LockId → Option (QueueBlock BufferLock)) (homes : List CpuId) (c d : CpuId) (past : List BufferEvent) (local : Waiting BufferReply)
+    (call_states : List CallState) → BootsSo opening → past ≡ [] → local ≡ waiting_at_start homes c → call_states ≡ replicate THREADS no_call
+    → PartFits opening d past local call_states None None
+start_fits opening homes c d past local call_states boots none own_is call_states_are = record {
   boots = boots;
   sizes = record {
-    slept = ap (λ (x : Waiting BufferOut). length x.lock.slept) own_is ∙ length-replicate {A = Option BufId} THREADS None;
-    waits = ap (λ (x : Waiting BufferOut). length x.waits) own_is ∙ length-replicate {A = Option BufId} THREADS None;
+    slept = ap (λ (x : Waiting BufferReply). length x.lock.slept) own_is ∙ length-replicate {A = Option BufId} THREADS None;
+    waits = ap (λ (x : Waiting BufferReply). length x.waits) own_is ∙ length-replicate {A = Option BufId} THREADS None;
     call_states_are = ap (λ (l : List CallState). length l) call_states_are ∙ length-replicate {A = CallState} THREADS no_call;
   };
   calls = record {
     none = tt;
-    deferred = ap (λ (x : Waiting BufferOut). x.lock.sleep.deferred) own_is;
-    fit = λ u home. subst (λ log. FitsAt (inner opening) (buffer_sections log) own call_states u) (sym none)
-        (no_call_fits opening boots u (slept_for own.lock.slept u) (slept_for own.waits u) (call_state_of call_states u)
-        (ap (λ (x : Waiting BufferOut). slept_for x.lock.slept u) own_is ∙ same_default {A = Option BufId} THREADS u.0 None)
-        (ap (λ (x : Waiting BufferOut). slept_for x.waits u) own_is ∙ same_default {A = Option BufId} THREADS u.0 None)
+    deferred = ap (λ (x : Waiting BufferReply). x.lock.sleep.deferred) own_is;
+    fit = λ u home. subst (λ log. FitsAt (inner opening) (buffer_sections log) local call_states u) (sym none)
+        (no_call_fits opening boots u (slept_for local.lock.slept u) (slept_for local.waits u) (call_state_of call_states u)
+        (ap (λ (x : Waiting BufferReply). slept_for x.lock.slept u) own_is ∙ same_default {A = Option BufId} THREADS u.0 None)
+        (ap (λ (x : Waiting BufferReply). slept_for x.waits u) own_is ∙ same_default {A = Option BufId} THREADS u.0 None)
         (ap (λ (l : List CallState). call_state_of l u) call_states_are ∙ same_default {A = CallState} THREADS u.0 no_call));
   };
 }

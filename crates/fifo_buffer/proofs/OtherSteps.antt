@@ -5,7 +5,7 @@ use Rattle.std.proofs.{Common.{sym, ◌∙◌, subst, arith, rules}, lemmas.Bool
 use Rattle.event_log.specs.{declared.ids.{BufId.BufId, LockId.{LockId, TheVariants.Buffer}, Tid.Tid, CpuId.CpuId}, History.{same_lock, AreOthers, same_cpu}}
 use Rattle.{event_log.proofs.Same.{same_lock_true, same_cpu_self, same_lock_self}, layer_traits.specs.declared.buffer_edits.BufferEdit.BufferEdit}
 use Rattle.layer_traits.specs.declared.{calls.{Call.{Call, TheVariants.{Send, Recv, Close}}, Effect.Effect}, conditions.CvLeave.TheVariants.{Leave, Wait}}
-use Rattle.layer_traits.specs.declared.locked.{QEdit.TheVariants.{Acquire, Inside, Release}, Side.{Side, TheVariants.{Receivers, Senders}}}
+use Rattle.layer_traits.specs.declared.locked.{QLockCall.TheVariants.{Acquire, Inside, Release}, Side.{Side, TheVariants.{Receivers, Senders}}}
 use Rattle.layer_traits.specs.declared.call_states.{CallState.CallState, Stage.{Stage, TheVariants.{Idle, Acquires, Enters, Tries, Waits, AcquiresAgain}}}
 use Rattle.layer_traits.specs.declared.{queue_edits.QueueBlock.QueueBlock, queues.QueueCall.{QueueCall, TheVariants.{Push, TakeAll, OnBuffer}}}
 use Rattle.layer_traits.specs.Blocks.BufferProtocol.{BufferLock, BufferSection, buffer_lock_at, buffer_rules, has_tried_in_vain, IsDue, is_in_line}
@@ -13,7 +13,7 @@ use Rattle.layer_traits.specs.{Blocks.QueueBlocks.{homes_in, inner}, Layers.{Buf
 use Rattle.layer_traits.specs.Layers.{QLocking.{lock_caller, lock_edited, owner_in}, Queues.{QueueAllowed, buffer_sections, cpu_of_queue_event, with_section}}
 use Rattle.layer_traits.{specs.{Threads.Places.{count_in, one_if, home_of}, Protocols.Protocol.section}, proofs.CountLemmas.{same_tid_sym, count_behind}}
 use Rattle.{layer_traits.proofs.{CountLemmas.{count_other, not_counted}, ListsLemmas.counted_in}, thread_blocks.specs.Queues.{same_tid, is_in}}
-use Rattle.{thread_blocks.proofs.{Members.{same_tid_self, same_tid_true}, Distinct.out_of_rest}, fifo_buffer.specs.Stances.{Grip, Stance, CallStateFits}}
+use Rattle.{thread_blocks.proofs.{Members.{same_tid_self, same_tid_true}, Distinct.out_of_rest}, fifo_buffer.specs.Stances.{LockHolding, Stance, CallStateFits}}
 use Rattle.fifo_buffer.{specs.{Stances.{holds_at, line_at, lined_at, same_side, InCall}, SectionPolls.BufferEvent}, proofs.Callers.{monitored, kernel_of}}
 use Rattle.fifo_buffer.proofs.Callers.{AreLawful}
 
@@ -28,7 +28,7 @@ pub side_self : (side : Side) → same_side side side ≡ true
 side_self side = grind arith
 
 grip_edit : (t : Tid) (e : CvCall BufferEdit) (lock : BufferLock) (holds asks : Bool) → same_tid (lock_caller buffer_rules e) t ≡ false
-    → IsOwners buffer_rules e lock.owner → Grip t holds asks (Some lock) → Grip t holds asks (Some (lock_edited buffer_rules e lock))
+    → IsOwners buffer_rules e lock.owner → LockHolding t holds asks (Some lock) → LockHolding t holds asks (Some (lock_edited buffer_rules e lock))
 grip_edit t e lock false true other owns grip = tt
 grip_edit t (Acquire u) lock true asks other owns grip = grind (arith, in_append)
 grip_edit t (Acquire u) lock false false other owns grip = grind (arith, not_some, in_append)
@@ -40,7 +40,7 @@ grip_edit t (Release (Leave u)) lock false false other owns grip = out_of_rest t
 grip_edit t (Release (Wait u side)) lock false false other owns grip = out_of_rest t lock.sleepers grip.1
 
 pub grip_apart : (t : Tid) (e : CvCall BufferEdit) (x : Option BufferLock) (holds asks : Bool) → same_tid (lock_caller buffer_rules e) t ≡ false
-    → IsOwners buffer_rules e (owner_in x) → Grip t holds asks x → Grip t holds asks (option_map (lock_edited buffer_rules e) x)
+    → IsOwners buffer_rules e (owner_in x) → LockHolding t holds asks x → LockHolding t holds asks (option_map (lock_edited buffer_rules e) x)
 grip_apart t e None holds asks other owns grip = grip
 grip_apart t e (Some lock) holds asks other owns grip = grip_edit t e lock holds asks other owns grip
 
@@ -72,7 +72,7 @@ module _ (opening : LockId → Option BufferLock) (past : List BufferSection) (s
     pub stance_apart : (b : BufId) (side : Side) (holds asks lined : Bool) (position : ℕ) → Stance opening past t b side holds asks lined position
         → Stance opening (s ∷ past) t b side holds asks lined position
     stance_apart b side holds asks lined position stance = record {
-      grip = λ lock. at_after lock (Grip t (holds && same_lock lock (Buffer b)) (asks && same_lock lock (Buffer b)))
+      grip = λ lock. at_after lock (LockHolding t (holds && same_lock lock (Buffer b)) (asks && same_lock lock (Buffer b)))
           (λ one. grip_apart t s.edit (buffer_lock_at opening past s.lock) (holds && same_lock lock (Buffer b))
           (asks && same_lock lock (Buffer b)) other owns) (stance.grip lock);
       line = λ lock at. at_after lock (λ x. count_in t (line_at at x) ≡ one_if (lined && (same_lock lock (Buffer b) && same_side at side)))
@@ -82,17 +82,17 @@ module _ (opening : LockId → Option BufferLock) (past : List BufferSection) (s
 
     pub fits_apart : (call : Option Call) (slept waits : Option BufId) (call_state : CallState) → CallStateFits opening past t call slept waits call_state
         → CallStateFits opening (s ∷ past) t call slept waits call_state
-    fits_apart None slept waits call_state fits = search (rules, stance_apart)
-    fits_apart (Some call) slept waits call_state fits = record {
-      called = fits.called;
+    fits_apart None slept waits call_state coupled = search (rules, stance_apart)
+    fits_apart (Some call) slept waits call_state coupled = record {
+      called = coupled.called;
       stance =
           stance_apart (buffer_of call) (side_of call) (holds_at call_state.stage (is_some waits)) (is_some slept)
-          (lined_at call_state.stage) call_state.position fits.stance;
-      vain = λ is. vain_apart (Buffer (buffer_of call)) (side_of call) other ∙ fits.vain is;
-      joins = fits.joins;
-      effect_is = fits.effect_is;
-      slept_here = fits.slept_here;
-      waits_here = fits.waits_here;
+          (lined_at call_state.stage) call_state.position coupled.stance;
+      vain = λ is. vain_apart (Buffer (buffer_of call)) (side_of call) other ∙ coupled.vain is;
+      joins = coupled.joins;
+      effect_is = coupled.effect_is;
+      slept_here = coupled.slept_here;
+      waits_here = coupled.waits_here;
     }
 
 module _ (opening : LockId → Option (QueueBlock BufferLock)) where
@@ -101,16 +101,16 @@ module _ (opening : LockId → Option (QueueBlock BufferLock)) where
       → ((t : Tid) → home_of (homes_in opening) t ≡ Some e.cpu → same_tid t u ≡ false) → (of : Option Call) (slept waits : Option BufId)
       (call_state : CallState) → CallStateFits (inner opening) (buffer_sections past) u of slept waits call_state
       → CallStateFits (inner opening) (buffer_sections (e ∷ past)) u of slept waits call_state
-  one_event past e u allowed other of slept waits call_state fits = go e.call allowed
+  one_event past e u allowed other of slept waits call_state coupled = go e.call allowed
     where
       go : (call : QueueCall (CvCall BufferEdit)) → QueueAllowed (kernel_of opening) past
           (record { cpu = e.cpu; call = call })
           → CallStateFits (inner opening) (with_section e.cpu call (buffer_sections past)) u of slept waits call_state
-      go (Push d t) may = fits
-      go (TakeAll d) may = fits
+      go (Push d t) may = coupled
+      go (TakeAll d) may = coupled
       go (OnBuffer b call) may =
           fits_apart (inner opening) (buffer_sections past) (section e.cpu (Buffer b) call) u (other (lock_caller buffer_rules call) may.caller.home)
-          may.upper.owners of slept waits call_state fits
+          may.upper.owners of slept waits call_state coupled
 
   home_apart : (c : CpuId) (e : BufferEvent) (u t : Tid) → home_of (homes_in opening) u ≡ Some c → same_cpu e.cpu c ≡ false
       → home_of (homes_in opening) t ≡ Some e.cpu → same_tid t u ≡ false
@@ -121,10 +121,10 @@ module _ (opening : LockId → Option (QueueBlock BufferLock)) where
       → AreLawful opening (more ++ past) → (of : Option Call) (slept waits : Option BufId) (call_state : CallState)
       → CallStateFits (inner opening) (buffer_sections past) u of slept waits call_state
       → CallStateFits (inner opening) (buffer_sections (more ++ past)) u of slept waits call_state
-  keeps_fits c u home [] past others lawful of slept waits call_state fits = fits
-  keeps_fits c u home (e ∷ more) past others lawful of slept waits call_state fits =
+  keeps_fits c u home [] past others lawful of slept waits call_state coupled = coupled
+  keeps_fits c u home (e ∷ more) past others lawful of slept waits call_state coupled =
       one_event (more ++ past) e u lawful.0 (λ t there. home_apart c e u t home others.0 there) of slept waits call_state
-      (keeps_fits c u home more past others.1 lawful.1 of slept waits call_state fits)
+      (keeps_fits c u home more past others.1 lawful.1 of slept waits call_state coupled)
 
 -- the thread that calls
 pub caller_is : (t : Tid) (call : Call) (stage : Stage) → lock_caller monitored (section_at t call stage) ≡ t
@@ -133,15 +133,17 @@ caller_is t call stage = grind arith
 -- what a stance lets its thread do
 module _ (O : LockId → Option BufferLock) (past : List BufferSection) (t : Tid) where
   grip_here : (b : BufId) (side : Side) (holds asks lined : Bool) (position : ℕ) → Stance O past t b side holds asks lined position
-      → Grip t holds asks (buffer_lock_at O past (Buffer b))
+      → LockHolding t holds asks (buffer_lock_at O past (Buffer b))
   grip_here b side holds asks lined position stance =
-      subst (λ v. Grip t v asks (buffer_lock_at O past (Buffer b))) (and-true holds) (subst (λ v. Grip t (holds && true) v (buffer_lock_at O past (Buffer b)))
-      (and-true asks) (subst (λ v. Grip t (holds && v) (asks && v) (buffer_lock_at O past (Buffer b))) (same_lock_self (Buffer b)) (stance.grip (Buffer b))))
+      subst (λ v. LockHolding t v asks (buffer_lock_at O past (Buffer b))) (and-true holds)
+      (subst (λ v. LockHolding t (holds && true) v (buffer_lock_at O past (Buffer b)))
+      (and-true asks) (subst (λ v. LockHolding t (holds && v) (asks && v) (buffer_lock_at O past (Buffer b))) (same_lock_self (Buffer b))
+      (stance.grip (Buffer b))))
 
-  owned : (x : Option BufferLock) → Grip t true false x → owner_in x ≡ Some t
+  owned : (x : Option BufferLock) → LockHolding t true false x → owner_in x ≡ Some t
   owned x grip = grind arith
 
-  not_owned : (x : Option BufferLock) → Grip t false false x → owner_in x ≢ Some t
+  not_owned : (x : Option BufferLock) → LockHolding t false false x → owner_in x ≢ Some t
   not_owned None grip is = absurd (cc is)
   not_owned (Some lock) grip is = grip.0 is
 

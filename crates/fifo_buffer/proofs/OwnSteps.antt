@@ -1,12 +1,12 @@
 -- A thread's own sections: what each leaves of its stance, and its effect.
 use Rattle.std.proofs.Common.{ℕ, ◌≡◌, ◌<◌, Bool, true, false, ◌&&◌, List, ◌∷◌, Option, Some, None, option_map, if◌then◌else◌, refl, ap, sym, ◌∙◌}
 use Rattle.std.proofs.{Common.{rules, is_some, not, subst, arith, lt-ltb}, lemmas.Bool.{and_parts, and_right}, Math.Bool.and-true}
-use Rattle.fifo_buffer.specs.Stances.{IsMark, waits_at, asks_at, called_at, lined_at, holds_at, Grip, InCall, Stance, CallStateFits}
+use Rattle.fifo_buffer.specs.Stances.{IsMark, waits_at, asks_at, called_at, lined_at, holds_at, LockHolding, InCall, Stance, CallStateFits}
 use Rattle.fifo_buffer.specs.{Stances.{done_at, recorded_by, line_at, same_side, slept_by, call_state_in, waits_by, EntersLine}, Laws.BlockSteps.kind_counts}
 use Rattle.{fifo_buffer.proofs.OtherSteps.side_self, layer_traits.specs.declared.conditions.CvLeave.{CvLeave, TheVariants.{Leave, Wait}}}
-use Rattle.layer_traits.specs.declared.{conditions.{CvEdit.TheVariants.Edit, CvOut.CvOut}, buffer_edits.BufferEdit.{BufferEdit, TheVariants.{Enter, Shut}}}
-use Rattle.layer_traits.specs.declared.{buffer_edits.BufferOut.BufferOut, calls.{Call.{Call, TheVariants.{Send, Recv, Close}}, Effect.Effect}}
-use Rattle.layer_traits.specs.declared.locked.{QEdit.TheVariants.{Acquire, Inside, Release}, QOut.{QOut, TheVariants.Did}, Side.Side}
+use Rattle.layer_traits.specs.declared.{conditions.{CvEdit.TheVariants.Edit, CvReply.CvReply}, buffer_edits.BufferEdit.{BufferEdit, TheVariants.{Enter, Shut}}}
+use Rattle.layer_traits.specs.declared.{buffer_edits.BufferReply.BufferReply, calls.{Call.{Call, TheVariants.{Send, Recv, Close}}, Effect.Effect}}
+use Rattle.layer_traits.specs.declared.locked.{QLockCall.TheVariants.{Acquire, Inside, Release}, QLockReply.{QLockReply, TheVariants.Did}, Side.Side}
 use Rattle.layer_traits.specs.declared.{locked.Side.TheVariants.{Receivers, Senders}, call_states.Stage.{Stage, TheVariants.{Idle, Acquires, Enters, Tries}}}
 use Rattle.layer_traits.specs.{declared.call_states.Stage.TheVariants.{Waits, AcquiresAgain, Signals, SignalsOwn, Releases}, Blocks.BufferBlocks.BufferState}
 use Rattle.layer_traits.specs.Blocks.{BufferBlocks.{effect_kind, entered, first_item, is_next, line_of, may_join, drawn_of}, BufferEffects.drawn}
@@ -18,13 +18,13 @@ use Rattle.event_log.specs.declared.{entries.Entry.Entry, ids.{BufId.BufId, CpuI
 use Rattle.event_log.{specs.{History.same_lock, Messages.{Message, no_message}, Runs.group_of}, proofs.Same.{same_lock_self, same_lock_true}}
 use Rattle.{event_log.proofs.BoolLemmas.none_of, thread_blocks.{proofs.{Members.same_tid_self, Distinct.out_of_rest}}}
 use Rattle.event_log.specs.declared.entries.Kind.TheVariants as kind
-use Rattle.layer_traits.specs.declared.buffer_edits.BufferOut.TheVariants as told
-use Rattle.layer_traits.specs.declared.conditions.CvOut.TheVariants as answer
+use Rattle.layer_traits.specs.declared.buffer_edits.BufferReply.TheVariants as abstract_answer
+use Rattle.layer_traits.specs.declared.conditions.CvReply.TheVariants as answer
 
 -- what a section with this result did: the stance and the call state after it, and its effect
 pub record Stepped (opening : LockId → Option BufferLock) (past : List BufferSection) (c : CpuId) (t : Tid) (call : Call) (stage : Stage)
-    (position : ℕ) (effect : Option Effect) (out : QOut (CvOut BufferOut)) : Type 0 where
-  pub fits : CallStateFits opening (section c (Buffer (buffer_of call)) (section_at t call stage) ∷ past) t
+    (position : ℕ) (effect : Option Effect) (out : QLockReply (CvReply BufferReply)) : Type 0 where
+  pub coupled : CallStateFits opening (section c (Buffer (buffer_of call)) (section_at t call stage) ∷ past) t
       (recorded_by (call_state_in stage call position effect) stage out).call
       (slept_by (buffer_of call) out) (waits_by (buffer_of call) out) (recorded_by (call_state_in stage call position effect) stage out)
   pub mine : Option Effect
@@ -51,13 +51,13 @@ there_too opening past b lock is l same = subst (λ k. buffer_lock_at opening pa
 module _ {opening : LockId → Option BufferLock} {past : List BufferSection} (c : CpuId) {t : Tid} {b : BufId} {side : Side}
     {lock : BufferLock} (is : buffer_lock_at opening past (Buffer b) ≡ Some lock) where
   module _ (e : CvCall BufferEdit) {holds asks lined : Bool} {position : ℕ} (stance : Stance opening past t b side holds asks lined position)
-      (holds' asks' : Bool) (grips : Grip t holds asks (Some lock) → Grip t holds' asks' (Some (lock_edited buffer_rules e lock))) where
+      (holds' asks' : Bool) (grips : LockHolding t holds asks (Some lock) → LockHolding t holds' asks' (Some (lock_edited buffer_rules e lock))) where
     grip_at : (l : LockId) (v : Bool) → same_lock l (Buffer b) ≡ v
-        → Grip t (holds' && v) (asks' && v)
+        → LockHolding t (holds' && v) (asks' && v)
         (if v then option_map (lock_edited buffer_rules e) (buffer_lock_at opening past l) else buffer_lock_at opening past l)
     grip_at l true same =
-        let now : Grip t (holds && true) (asks && true) (Some lock) = rw (there_too opening past b lock is l same, same) at (stance.grip l) in
-        let then' : Grip t holds' asks' (Some (lock_edited buffer_rules e lock)) = grips (rw (← and-true holds, ← and-true asks) now) in
+        let now : LockHolding t (holds && true) (asks && true) (Some lock) = rw (there_too opening past b lock is l same, same) at (stance.grip l) in
+        let then' : LockHolding t holds' asks' (Some (lock_edited buffer_rules e lock)) = grips (rw (← and-true holds, ← and-true asks) now) in
         rw (there_too opening past b lock is l same, and-true holds', and-true asks') then'
     grip_at l false same =
         rw (and_right holds' false refl, and_right asks' false refl) (rw (same, and_right holds false refl, and_right asks false refl) at (stance.grip l))
@@ -163,20 +163,20 @@ module _ (opening : LockId → Option BufferLock) (past : List BufferSection) (c
   abbrev Within : Call → Stage → Type 0
   Within call stage = InCall opening past t call None None stage position effect
 
-  abbrev Steps : Call → Stage → QOut (CvOut BufferOut) → Type 0
+  abbrev Steps : Call → Stage → QLockReply (CvReply BufferReply) → Type 0
   Steps call stage out = Stepped opening past c t call stage position effect out
 
   abbrev effect_here : Call → Stage → Option BufferLock → Option Entry
   effect_here call stage x = effect_on c (buffer_of call) (section_at t call stage) (λ side u. drawn opening (Buffer (buffer_of call)) side u past) x
 
   -- a section without an effect
-  silent : (call : Call) (stage : Stage) (out : QOut (CvOut BufferOut)) → At call → effect_here call stage (Some lock) ≡ None
+  silent : (call : Call) (stage : Stage) (out : QLockReply (CvReply BufferReply)) → At call → effect_here call stage (Some lock) ≡ None
       → CallStateFits opening (section c (Buffer (buffer_of call)) (section_at t call stage) ∷ past) t
       (recorded_by (call_state_in stage call position effect) stage out).call (slept_by (buffer_of call) out) (waits_by (buffer_of call) out)
       (recorded_by (call_state_in stage call position effect) stage out)
       → (recorded_by (call_state_in stage call position effect) stage out).effect ≡ effect → Steps call stage out
-  silent call stage out is none fits stays =
-      record { fits = fits; mine = None; is = ap (effect_here call stage) is ∙ none; fresh = λ f w. absurd cc; stays = λ w. stays }
+  silent call stage out is none coupled stays =
+      record { coupled = coupled; mine = None; is = ap (effect_here call stage) is ∙ none; fresh = λ f w. absurd cc; stays = λ w. stays }
 
   asks_step : (call : Call) → At call → Within call Acquires → (owner : Option Tid) → lock.owner ≡ owner → Steps call Acquires (asker_report owner)
   asks_step call is now None free =
@@ -198,7 +198,7 @@ module _ (opening : LockId → Option BufferLock) (past : List BufferSection) (c
       (call_within refl (entered_line c is position small now.stance) (λ w. absurd cc) (λ w. tt) now.effect_is tt tt) refl
   -- a close changes no line and keeps the owner
   enters_step (Close b) small is now = record {
-    fits = call_within refl (own_stance c is (Inside (Edit (Shut t))) now.stance true false (λ grip. grip) false position
+    coupled = call_within refl (own_stance c is (Inside (Edit (Shut t))) now.stance true false (λ grip. grip) false position
         (λ at none. ap (count_in t) (grind arith) ∙ none) (λ lines. absurd cc)) (λ w. absurd cc) (λ w. absurd cc) refl tt tt;
     mine = Some closed;
     is = ap (effect_here (Close b) Enters) is;
@@ -214,9 +214,10 @@ module _ (opening : LockId → Option BufferLock) (past : List BufferSection) (c
   -- fails
   tries_step : (call : Call) → EntersLine call → At call → Within call Tries → (v : Bool) → is_next (side_of call) t lock.above ≡ v
       → Steps call Tries
-      (Did (answer.Did (if v then told.Done (effect_kind (side_of call) lock.above) lock.above.effects (tried_value call lock.above) else told.NotYet)))
+      (Did (answer.Did (if v then abstract_answer.Done (effect_kind (side_of call) lock.above) lock.above.effects (tried_value call lock.above)
+      else abstract_answer.NotYet)))
   tries_step call enters is now true next = record {
-    fits = call_within refl (own_stance c is (section_at t call Tries) now.stance true false (λ grip. grip) false position
+    coupled = call_within refl (own_stance c is (section_at t call Tries) now.stance true false (λ grip. grip) false position
         (λ at once. left_line t call lock at enters next once) (λ lines. absurd cc)) (λ w. absurd cc) (λ w. absurd cc) refl tt tt;
     mine = Some (tried_effect call lock.above position);
     is = ap (effect_here call Tries) is ∙ effect_tried c t call lock _ true enters next

@@ -6,15 +6,16 @@ use Rattle.fifo_buffer.{proofs.{Callers.{kernel_of, AreLawful}, OtherSteps.keeps
 use Rattle.fifo_buffer.specs.{Laws.Tallies.effect_position, SectionPolls.{BufferEvent, BufferOutcome, CallsFit, SectionGoes, IsDeferred, Midway, NoSection}}
 use Rattle.{fifo_buffer.specs.{SectionPolls.under_way_at, declared.fifo.Fifo.Fifo}, event_log.specs.declared.{entries.Entry.Entry, ids.BufId.BufId}}
 use Rattle.event_log.specs.{declared.ids.{CpuId.CpuId, LockId.{LockId, TheVariants.Buffer}, Tid.Tid}, History.{AreForeign, AreOthers, same_cpu}}
-use Rattle.{event_log.proofs.{Same.same_cpu_true, Foreign.others_both}, layer_traits.specs.declared.buffer_edits.{BufferEdit.BufferEdit, BufferOut.BufferOut}}
-use Rattle.layer_traits.specs.declared.{calls.Call.Call, locked.Side.Side, queue_edits.QueueBlock.QueueBlock, queues.QueueCall.{QueueCall, TheVariants.Push}}
-use Rattle.layer_traits.specs.declared.{queues.QueueCall.TheVariants.{TakeAll, OnBuffer}, scheds.SchedCall.SchedCall, call_states.CallState.CallState}
-use Rattle.layer_traits.specs.{declared.passes.Pass.Pass, Blocks.{BufferEffects.{effect_of, effect_on, effects_in}, BufferProtocol.{BufferLock, BufferSection}}}
-use Rattle.layer_traits.specs.{Blocks.QueueBlocks.{homes_in, inner}, Layers.BufferLaw.{MovesGrow, OthersSeen, cpu_of_entry, recorded, call_state_of, Calling}}
-use Rattle.layer_traits.specs.Layers.{BufferLaw.{MayGoOn, Passing}, Conditions.CvCall, CvLaw.Waiting, Queues.{buffer_sections, cpu_of_queue_event, moves_in}}
-use Rattle.layer_traits.specs.{Layers.{Queues.with_section, Scheds.{SchedPolled, events_of, pass_call}, SleepLaw.done_if}, Threads.Places.{home_of, Threads}}
-use Rattle.layer_traits.{specs.{Threads.Passes.PassPolled, Protocols.Protocol.section, Polling.Framed.Framed}, proofs.CallLemmas.{moves_append, moves_others}}
-use Rattle.layer_traits.proofs.{CallLemmas.{moves_over, pass_polled}, SleepLemmas.done_same, Seen.lawful_rest}
+use Rattle.{event_log.proofs.{Same.same_cpu_true, Foreign.others_both}, layer_traits.specs.declared.buffer_edits.BufferEdit.BufferEdit}
+use Rattle.layer_traits.specs.declared.{buffer_edits.BufferReply.BufferReply, calls.Call.Call, locked.Side.Side, queue_edits.QueueBlock.QueueBlock}
+use Rattle.layer_traits.specs.declared.{queues.QueueCall.{QueueCall, TheVariants.{Push, TakeAll, OnBuffer}}, scheds.SchedCall.SchedCall}
+use Rattle.layer_traits.specs.{declared.{call_states.CallState.CallState, passes.Pass.Pass}, Blocks.BufferEffects.{effect_of, effect_on, effects_in}}
+use Rattle.layer_traits.specs.{Blocks.{BufferProtocol.{BufferLock, BufferSection}, QueueBlocks.{homes_in, inner}}, Layers.BufferLaw.{MovesGrow, OthersSeen}}
+use Rattle.layer_traits.specs.Layers.{BufferLaw.{cpu_of_entry, recorded, call_state_of, Calling, MayGoOn, Passing}, Conditions.CvCall, CvLaw.Waiting}
+use Rattle.layer_traits.specs.Layers.{Queues.{buffer_sections, cpu_of_queue_event, moves_in, with_section}, Scheds.{SchedPolled, events_of, pass_call}}
+use Rattle.layer_traits.specs.{Layers.SleepLaw.done_if, Threads.{Places.{home_of, Threads}, Passes.PassPolled}, Protocols.Protocol.section}
+use Rattle.layer_traits.{specs.Polling.Framed.Framed, proofs.{CallLemmas.{moves_append, moves_others, moves_over, pass_polled}, SleepLemmas.done_same}}
+use Rattle.layer_traits.proofs.Seen.{lawful_rest}
 use Rattle.layer_traits.specs.declared.scheds.SchedCall.TheVariants as sched
 
 -- an effect has its section's CPU
@@ -78,30 +79,32 @@ module _ (opening : LockId → Option (QueueBlock BufferLock)) (d : CpuId) (more
   midway_on t home call call_state None hand midway = (midway.0, call_state_on t home (Some call) None None call_state midway.1)
   midway_on t home call call_state (Some outcome) hand midway = deferred_on t home call_state outcome midway
 
-  goes_on : (t : Tid) → home_of (homes_in opening) t ≡ Some d → (call : Call) (call_state : CallState) (own : Waiting BufferOut)
-      (under_way : Option (SchedCall (CvCall BufferEdit))) → SectionGoes (inner opening) (buffer_sections past) t call call_state own under_way
-      → SectionGoes (inner opening) (buffer_sections (more ++ past)) t call call_state own under_way
-  goes_on t home call call_state own None goes = search (rules, call_state_on t home (Some call))
-  goes_on t home call call_state own (Some s) goes = search (rules, midway_on t home call call_state)
+  goes_on : (t : Tid) → home_of (homes_in opening) t ≡ Some d → (call : Call) (call_state : CallState) (local : Waiting BufferReply)
+      (under_way : Option (SchedCall (CvCall BufferEdit))) → SectionGoes (inner opening) (buffer_sections past) t call call_state local under_way
+      → SectionGoes (inner opening) (buffer_sections (more ++ past)) t call call_state local under_way
+  goes_on t home call call_state local None goes = search (rules, call_state_on t home (Some call))
+  goes_on t home call call_state local (Some s) goes = search (rules, midway_on t home call call_state)
 
   -- a part keeps fitting over events of other CPUs
-  pub calls_on : (own : Waiting BufferOut) (call_states : List CallState) (under_way : Option (SchedCall (CvCall BufferEdit))) (calling : Option Tid)
-      → CallsFit (homes_in opening) d (inner opening) (buffer_sections past) own call_states under_way calling
-      → CallsFit (homes_in opening) d (inner opening) (buffer_sections (more ++ past)) own call_states under_way calling
-  calls_on own call_states under_way None fits = search (rules, call_state_on)
-  calls_on own call_states under_way (Some t) fits = search (rules, call_state_on, goes_on t fits.home fits.call (call_state_of call_states t) own under_way)
+  pub calls_on : (local : Waiting BufferReply) (call_states : List CallState) (under_way : Option (SchedCall (CvCall BufferEdit))) (calling : Option Tid)
+      → CallsFit (homes_in opening) d (inner opening) (buffer_sections past) local call_states under_way calling
+      → CallsFit (homes_in opening) d (inner opening) (buffer_sections (more ++ past)) local call_states under_way calling
+  calls_on local call_states under_way None coupled = search (rules, call_state_on)
+  calls_on local call_states under_way (Some t) coupled =
+      search (rules, call_state_on, goes_on t coupled.home coupled.call (call_state_of call_states t) local under_way)
 
-  pub part_on : {own : Waiting BufferOut} {call_states : List CallState} {under_way : Option (SchedCall (CvCall BufferEdit))} {calling : Option Tid}
-      → PartFits opening d past own call_states under_way calling → PartFits opening d (more ++ past) own call_states under_way calling
-  part_on {own} {call_states} {under_way} {calling} fits = search (rules, calls_on own call_states under_way calling)
+  pub part_on : {local : Waiting BufferReply} {call_states : List CallState} {under_way : Option (SchedCall (CvCall BufferEdit))} {calling : Option Tid}
+      → PartFits opening d past local call_states under_way calling → PartFits opening d (more ++ past) local call_states under_way calling
+  part_on {local} {call_states} {under_way} {calling} coupled = search (rules, calls_on local call_states under_way calling)
 
 -- the same at a log that grew so
 pub part_grown : (opening : LockId → Option (QueueBlock BufferLock)) (d : CpuId) (more past new : List BufferEvent) → AreOthers cpu_of_queue_event d more
-    → AreLawful opening new → new ≡ more ++ past → {own : Waiting BufferOut} {call_states : List CallState} {under_way : Option (SchedCall (CvCall BufferEdit))}
-    {calling : Option Tid} → PartFits opening d past own call_states under_way calling → PartFits opening d new own call_states under_way calling
-part_grown opening d more past new others lawful is {own} {call_states} {under_way} {calling} fits =
-    subst (λ log. PartFits opening d log own call_states under_way calling) (sym is)
-    (part_on opening d more past others (subst (AreLawful opening) is lawful) fits)
+    → AreLawful opening new → new ≡ more ++ past
+    → {local : Waiting BufferReply} {call_states : List CallState} {under_way : Option (SchedCall (CvCall BufferEdit))}
+    {calling : Option Tid} → PartFits opening d past local call_states under_way calling → PartFits opening d new local call_states under_way calling
+part_grown opening d more past new others lawful is {local} {call_states} {under_way} {calling} coupled =
+    subst (λ log. PartFits opening d log local call_states under_way calling) (sym is)
+    (part_on opening d more past others (subst (AreLawful opening) is lawful) coupled)
 
 -- only effects of other CPUs, and only moves of other CPUs
 pub seen_grown : (ActsFor Acts : CpuId → Type 0) (O : LockId → Option BufferLock) (others old new : List BufferEvent) → ((d : CpuId) → Acts d → ActsFor d)
@@ -115,17 +118,17 @@ seen_grown ActsFor Acts O others old new weaker foreign is = record {
 
 all_own : (opening : LockId → Option (QueueBlock BufferLock)) (c : CpuId) (mine past : List BufferEvent) → AllByRecursion (λ (e : BufferEvent). e.cpu ≡ c) mine
     → AllByRecursion (λ s. s.cpu ≡ c) (moves_over (kernel_of opening) mine past)
-all_own opening c [] past own = tt
-all_own opening c (e ∷ mine) past own = (own.0, all_own opening c mine past own.1)
+all_own opening c [] past local = tt
+all_own opening c (e ∷ mine) past local = (local.0, all_own opening c mine past local.1)
 
 pub moves_grown : (opening : LockId → Option (QueueBlock BufferLock)) (ActsFor Acts : CpuId → Type 0) (c : CpuId) (mine others old new : List BufferEvent)
     → ((d : CpuId) → Acts d → ActsFor d) → AreForeign ActsFor cpu_of_queue_event others → AllByRecursion (λ (e : BufferEvent). e.cpu ≡ c) mine
     → new ≡ mine ++ (others ++ old) → MovesGrow Acts c (moves_in (kernel_of opening) old) (moves_in (kernel_of opening) new)
-moves_grown opening ActsFor Acts c mine others old new weaker foreign own is = record {
+moves_grown opening ActsFor Acts c mine others old new weaker foreign local is = record {
   others = moves_over (kernel_of opening) others old;
   mine = moves_over (kernel_of opening) mine (others ++ old);
   foreign = λ d acts. moves_others (kernel_of opening) d others old (foreign d (weaker d acts));
-  own = all_own opening c mine (others ++ old) own;
+  local = all_own opening c mine (others ++ old) local;
   is = ap (moves_in (kernel_of opening)) is
       ∙ moves_append (kernel_of opening) mine (others ++ old) ∙ ap (λ steps. moves_over (kernel_of opening) mine (others ++ old) ++ steps)
       (moves_append (kernel_of opening) others old);
@@ -133,33 +136,33 @@ moves_grown opening ActsFor Acts c mine others old new weaker foreign own is = r
 
 -- the part of another CPU keeps fitting over a section poll
 own_others : (c d : CpuId) → d ≢ c → (mine : List BufferEvent) → AllByRecursion (λ (e : BufferEvent). e.cpu ≡ c) mine → AreOthers cpu_of_queue_event d mine
-own_others c d other [] own = tt
-own_others c d other (e ∷ mine) own = (go (same_cpu e.cpu d) refl, own_others c d other mine own.1)
+own_others c d other [] local = tt
+own_others c d other (e ∷ mine) local = (go (same_cpu e.cpu d) refl, own_others c d other mine local.1)
   where
     go : (b : Bool) → same_cpu e.cpu d ≡ b → b ≡ false
     go b is = grind (arith, same_cpu_true)
 
 pub other_part : (opening : LockId → Option (QueueBlock BufferLock)) (c d : CpuId) → d ≢ c → (mine others past new : List BufferEvent)
     → AllByRecursion (λ (e : BufferEvent). e.cpu ≡ c) mine → AreOthers cpu_of_queue_event d others → new ≡ mine ++ (others ++ past) → AreLawful opening new
-    → {own : Waiting BufferOut} {call_states : List CallState} {under_way : Option (SchedCall (CvCall BufferEdit))} {calling : Option Tid}
-    → PartFits opening d past own call_states under_way calling → PartFits opening d new own call_states under_way calling
-other_part opening c d apart mine others past new own_events foreign is lawful fits =
+    → {local : Waiting BufferReply} {call_states : List CallState} {under_way : Option (SchedCall (CvCall BufferEdit))} {calling : Option Tid}
+    → PartFits opening d past local call_states under_way calling → PartFits opening d new local call_states under_way calling
+other_part opening c d apart mine others past new own_events foreign is lawful coupled =
     part_grown opening d (mine ++ others) past new (others_both cpu_of_queue_event d mine others (own_others c d apart mine own_events) foreign) lawful
-    (is ∙ sym (append_assoc mine others past)) fits
+    (is ∙ sym (append_assoc mine others past)) coupled
 
 -- the call below was of a part of the same CPU, and the part agrees again; and so does each part of
 -- another CPU
-pub framed_over : {P M : Type 0} (Part : Fifo P → M → Type 0) {Fits : P → M → Type 0} {cpu_of : P → CpuId}
-    {opening : M → LockId → Option (QueueBlock BufferLock)} {site : M → List ℕ} {room : M → ℕ} {ActsFor MayHold : M → CpuId → Type 0} {old new : Fifo P}
-    {p p' : P} {m n : M} → Framed Fits cpu_of opening site room ActsFor MayHold p p' m n → cpu_of p ≡ cpu_of old.lower → new.lower ≡ p' → Part new n
-    → ((q : Fifo P) → cpu_of q.lower ≢ cpu_of old.lower → Fits q.lower m → Part q m → Part q n)
-    → Framed (λ q k. Fits q.lower k × Part q k) (λ q. cpu_of q.lower) opening site room (λ k c. ActsFor k c × BootsSo (opening k)) MayHold old new m n
+pub framed_over : {P M : Type 0} (Part : Fifo P → M → Type 0) {Coupled : P → M → Type 0} {cpu_of : P → CpuId}
+    {opening : M → LockId → Option (QueueBlock BufferLock)} {machine_id : M → List ℕ} {room : M → ℕ} {ActsFor MayHold : M → CpuId → Type 0} {old new : Fifo P}
+    {p p' : P} {m n : M} → Framed Coupled cpu_of opening machine_id room ActsFor MayHold p p' m n → cpu_of p ≡ cpu_of old.lower → new.lower ≡ p' → Part new n
+    → ((q : Fifo P) → cpu_of q.lower ≢ cpu_of old.lower → Coupled q.lower m → Part q m → Part q n)
+    → Framed (λ q k. Coupled q.lower k × Part q k) (λ q. cpu_of q.lower) opening machine_id room (λ k c. ActsFor k c × BootsSo (opening k)) MayHold old new m n
 framed_over Part {cpu_of = cpu_of} framed cpu new_is part others = record {
-  fits = (rw new_is framed.fits, part);
+  coupled = (rw new_is framed.coupled, part);
   cpu = ap cpu_of new_is ∙ framed.cpu ∙ cpu;
   stays = record {
     opening = framed.stays.opening;
-    site = framed.stays.site;
+    machine_id = framed.stays.machine_id;
     room = framed.stays.room;
     acts = λ c both. (framed.stays.acts c both.0, rw framed.stays.opening both.1);
   };
@@ -182,8 +185,8 @@ split homes c p done past = grind arith
 -- a call that was passed on to the scheduler of CPU c: the log and the CPU's threads before it and
 -- after it, and what it did
 module _ (opening : LockId → Option (QueueBlock BufferLock)) {ActsFor : CpuId → Type 0} {c : CpuId} (p : Pass) (result : Option (Unit {0}))
-    {old new : List BufferEvent} {own own' : Threads}
-    (polled : SchedPolled (kernel_of opening) ActsFor c (sched.Pass p) (done_if result) old new own own') where
+    {old new : List BufferEvent} {local local' : Threads}
+    (polled : SchedPolled (kernel_of opening) ActsFor c (sched.Pass p) (done_if result) old new local local') where
   pub pass_grown : new ≡ pass_events (homes_in opening) c p (is_some (done_if {O = BufferOutcome} result)) ++ (polled.others ++ old)
   pass_grown = polled.is ∙ split (homes_in opening) c p (is_some (done_if {O = BufferOutcome} result)) (polled.others ++ old)
 
@@ -199,24 +202,24 @@ module _ (opening : LockId → Option (QueueBlock BufferLock)) {ActsFor : CpuId 
   }
 
   pub pass_moved : (Acts : CpuId → Type 0) → ((d : CpuId) → Acts d → ActsFor d)
-      → PassPolled (homes_in opening) Acts c p result (moves_in (kernel_of opening) old) (moves_in (kernel_of opening) new) own own'
+      → PassPolled (homes_in opening) Acts c p result (moves_in (kernel_of opening) old) (moves_in (kernel_of opening) new) local local'
   pass_moved Acts weaker =
-      let moved = pass_polled (kernel_of opening) ActsFor c p (done_if result) old new own own' polled in
+      let moved = pass_polled (kernel_of opening) ActsFor c p (done_if result) old new local local' polled in
       let same : is_some (done_if {O = BufferOutcome} result) ≡ is_some result = done_same BufferOutcome result in
       record {
         others = moved.others;
         foreign = λ d acts. moved.foreign d (weaker d acts);
         is = rw (← same) moved.is;
         after = rw (← same) moved.after;
-        at_once = λ local. sym same ∙ moved.at_once local;
+        at_once = λ local_is. sym same ∙ moved.at_once local_is;
       }
 
   -- the part of this CPU, and those of other CPUs
   pub part_passed : (d : CpuId) → AreOthers cpu_of_queue_event d polled.others → AreLawful opening (polled.others ++ old)
-      → {cv : Waiting BufferOut} {call_states : List CallState} {under_way : Option (SchedCall (CvCall BufferEdit))} {calling : Option Tid}
+      → {cv : Waiting BufferReply} {call_states : List CallState} {under_way : Option (SchedCall (CvCall BufferEdit))} {calling : Option Tid}
       → PartFits opening d old cv call_states under_way calling → PartFits opening d new cv call_states under_way calling
-  part_passed d others lawful fits =
-      let on = part_on opening d polled.others old others lawful fits in
+  part_passed d others lawful coupled =
+      let on = part_on opening d polled.others old others lawful coupled in
       record { boots = on.boots; sizes = on.sizes; calls = rw same_sections on.calls }
 
 pub lawful_before : (opening : LockId → Option (QueueBlock BufferLock)) (mine past new : List BufferEvent) → new ≡ mine ++ past → AreLawful opening new
@@ -224,16 +227,16 @@ pub lawful_before : (opening : LockId → Option (QueueBlock BufferLock)) (mine 
 lawful_before opening mine past new is lawful = grind (arith, lawful_rest)
 
 -- what a pass changes of the part: its threads, and which pass is under way
-pub passed_own : (opening : LockId → Option (QueueBlock BufferLock)) (c : CpuId) (past : List BufferEvent) (cv cv' : Waiting BufferOut)
+pub passed_own : (opening : LockId → Option (QueueBlock BufferLock)) (c : CpuId) (past : List BufferEvent) (cv cv' : Waiting BufferReply)
     (call_states : List CallState)
     (under_way : Option (SchedCall (CvCall BufferEdit))) (calling : Option Tid) (p : Pass) (done : Bool) → MayGoOn (under_way_at calling under_way) (Passing p)
     → (cv'.lock.sleep.deferred ≡ cv.lock.sleep.deferred) × (cv'.lock.slept ≡ cv.lock.slept) × (cv'.waits ≡ cv.waits)
     → PartFits opening c past cv call_states under_way calling → PartFits opening c past cv' call_states (if done then None else Some (sched.Pass p)) calling
-passed_own opening c past cv cv' call_states under_way (Some t) p done may rest fits = absurd (let same : Calling t ≡ Passing p = may in cc)
-passed_own opening c past cv cv' call_states under_way None p done may (deferred, slept, waits) fits = record {
-  boots = fits.boots;
-  sizes = record { slept = rw slept fits.sizes.slept; waits = rw waits fits.sizes.waits; call_states_are = fits.sizes.call_states_are };
-  calls = record { none = none done; deferred = deferred ∙ fits.calls.deferred; fit = λ u home. rw (slept, waits) (fits.calls.fit u home) };
+passed_own opening c past cv cv' call_states under_way (Some t) p done may rest coupled = absurd (let same : Calling t ≡ Passing p = may in cc)
+passed_own opening c past cv cv' call_states under_way None p done may (deferred, slept, waits) coupled = record {
+  boots = coupled.boots;
+  sizes = record { slept = rw slept coupled.sizes.slept; waits = rw waits coupled.sizes.waits; call_states_are = coupled.sizes.call_states_are };
+  calls = record { none = none done; deferred = deferred ∙ coupled.calls.deferred; fit = λ u home. rw (slept, waits) (coupled.calls.fit u home) };
 }
   where
     none : (b : Bool) → NoSection (if b then None else Some (sched.Pass p))

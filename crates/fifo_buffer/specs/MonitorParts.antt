@@ -21,8 +21,8 @@ use Rattle.{layer_traits.specs.Layers.SleepLaw.Sleeping, fifo_buffer.specs.Monit
 use Rattle.fifo_buffer.specs.MonitorHistories.{MonitorLocked, fresh_monitors}
 use Rattle.fifo_buffer.specs.declared.monitor_blocks.MonitorAsk.{MonitorAsk}
 use Rattle.fifo_buffer.specs.declared.monitor_blocks.MonitorEdit.{MonitorEdit}
-use Rattle.fifo_buffer.specs.declared.monitor_blocks.MonitorOut.{MonitorOut, TheVariants.Acted}
-use Rattle.fifo_buffer.specs.declared.monitor_blocks.MonitorOut.TheVariants.{Refused, Woke}
+use Rattle.fifo_buffer.specs.declared.monitor_blocks.MonitorReply.{MonitorReply, TheVariants.Acted}
+use Rattle.fifo_buffer.specs.declared.monitor_blocks.MonitorReply.TheVariants.{Refused, Woke}
 use Rattle.fifo_buffer.specs.declared.monitor_blocks.MonitorAsk.TheVariants as ask
 
 -- a buffer as the layer's trait shows it: its lock has no owner, and the lines of the block are
@@ -66,7 +66,7 @@ is_waking stage = false
 -- the stage of a call that has had its effect: its thread wakes the first of this side, or the call
 -- is over
 abbrev pub stage_by : Side → Option Side → Stage
-stage_by own None = Idle
+stage_by local None = Idle
 stage_by Receivers (Some Receivers) = SignalsOwn
 stage_by Receivers (Some Senders) = Signals
 stage_by Senders (Some Receivers) = Signals
@@ -80,14 +80,14 @@ acted_at call stage effect =
 
 -- the call state after the result of a section: a call that had no effect tries again once its
 -- thread is woken
-abbrev pub monitor_recorded : Call → CallState → MonitorOut → CallState
+abbrev pub monitor_recorded : Call → CallState → MonitorReply → CallState
 monitor_recorded call call_state (Acted effect next) =
     acted_at call (stage_by (side_of call) next) (Some effect)
 monitor_recorded call call_state (Refused side) = call_state
 monitor_recorded call call_state (Woke woke next) =
     acted_at call (stage_by (side_of call) next) call_state.effect
 
-abbrev pub monitor_recorded_if : Call → CallState → Option (Outcome MonitorOut) → CallState
+abbrev pub monitor_recorded_if : Call → CallState → Option (Outcome MonitorReply) → CallState
 monitor_recorded_if call call_state None = call_state
 monitor_recorded_if call call_state (Some outcome) = monitor_recorded call call_state outcome.out
 
@@ -122,33 +122,33 @@ AgreesWithStage AcquiresAgain effect = ⊥
 AgreesWithStage Releases effect = ⊥
 
 -- whether a result is that of a section that wakes
-abbrev pub is_woke : MonitorOut → Bool
+abbrev pub is_woke : MonitorReply → Bool
 is_woke (Acted effect next) = false
 is_woke (Refused side) = false
 is_woke (Woke woke next) = true
 
 -- an outcome is deferred only while its thread wakes another
-abbrev pub Defers : Stage → Option (Outcome MonitorOut) → Option Tid → Type 0
+abbrev pub Defers : Stage → Option (Outcome MonitorReply) → Option Tid → Type 0
 Defers stage None hand = hand ≡ None
 Defers stage (Some outcome) hand = (is_waking stage ≡ true) × (is_woke outcome.out ≡ true)
 
 -- the section of a call may begin, or is under way
-abbrev pub SectionFits : Tid → Call → Stage → Option (SchedCall MonitorEdit) → Sleeping MonitorOut
+abbrev pub SectionFits : Tid → Call → Stage → Option (SchedCall MonitorEdit) → Sleeping MonitorReply
     → Type 0
-SectionFits t call stage None own = (own.threads.hand ≡ None) × (own.deferred ≡ None)
-SectionFits t call stage (Some (OnBuffer b e)) own =
+SectionFits t call stage None local = (local.threads.hand ≡ None) × (local.deferred ≡ None)
+SectionFits t call stage (Some (OnBuffer b e)) local =
     (b ≡ buffer_of call) × (e ≡ monitor_section t call stage)
-    × Defers stage own.deferred own.threads.hand
-SectionFits t call stage (Some (Pass p)) own = ⊥
+    × Defers stage local.deferred local.threads.hand
+SectionFits t call stage (Some (Pass p)) local = ⊥
 
 -- the call of a thread is under way
 pub record CallGoes (t : Tid) (under_way : Option (SchedCall MonitorEdit))
-    (own : Sleeping MonitorOut) (call_state : CallState) : Type 0 where
+    (local : Sleeping MonitorReply) (call_state : CallState) : Type 0 where
   pub call : Call
   pub is : call_state.call ≡ Some call
   pub begun : call_state.stage ≢ Idle
-  pub current : own.threads.current ≡ Some t
-  pub section : SectionFits t call call_state.stage under_way own
+  pub current : local.threads.current ≡ Some t
+  pub section : SectionFits t call call_state.stage under_way local
 
 -- no section of a monitor is under way
 abbrev pub NoMonitorSection : Option (SchedCall MonitorEdit) → Type 0
@@ -156,20 +156,21 @@ NoMonitorSection None = Unit {0}
 NoMonitorSection (Some (Pass p)) = Unit {0}
 NoMonitorSection (Some (OnBuffer b e)) = ⊥
 
-abbrev pub CallFits : Option Tid → Option (SchedCall MonitorEdit) → Sleeping MonitorOut
+abbrev pub CallFits : Option Tid → Option (SchedCall MonitorEdit) → Sleeping MonitorReply
     → List CallState → Type 0
-CallFits None under_way own call_states = NoMonitorSection under_way × (own.deferred ≡ None)
-CallFits (Some t) under_way own call_states = CallGoes t under_way own (call_state_of call_states t)
+CallFits None under_way local call_states = NoMonitorSection under_way × (local.deferred ≡ None)
+CallFits (Some t) under_way local call_states =
+    CallGoes t under_way local (call_state_of call_states t)
 
 -- the coupling invariant: a part of the monitors and its machine agree
 pub record MonitorFits (opening : LockId → Option (QueueBlock MonitorLocked))
-    (own : Sleeping MonitorOut) (call_states : List CallState)
+    (local : Sleeping MonitorReply) (call_states : List CallState)
     (under_way : Option (SchedCall MonitorEdit)) (calling : Option Tid) : Type 0 where
   pub fresh : OpensFresh opening
   pub slots : length call_states ≡ THREADS
   pub stages : (t : Tid) → AgreesWithStage (call_state_of call_states t).stage
       (call_state_of call_states t).effect
-  pub calls : CallFits calling under_way own call_states
+  pub calls : CallFits calling under_way local call_states
 
 -- a part's private state, as the layer's trait shows it
 abbrev pub monitor_own : Threads → List CallState → Buffering

@@ -10,11 +10,12 @@ use Rattle.layer_traits.specs.{declared.sleeps.Wake.Wake, Blocks.BufferBlocks.{c
 use Rattle.{layer_traits.specs.Layers.Sleeping.joined, thread_blocks.specs.Queues.{first, rest}}
 use Rattle.fifo_buffer.specs.{Tallies.drawn_by, declared.monitor_blocks.Front.TheVariants.Asleep}
 use Rattle.fifo_buffer.specs.declared.monitor_blocks.Front.TheVariants.{Owed, Awake}
-use Rattle.fifo_buffer.specs.declared.monitor_blocks.{MonitorAsk.MonitorAsk, MonitorOut.MonitorOut}
+use Rattle.fifo_buffer.specs.declared.monitor_blocks.MonitorAsk.{MonitorAsk}
+use Rattle.fifo_buffer.specs.declared.monitor_blocks.MonitorReply.{MonitorReply}
 use Rattle.fifo_buffer.specs.Monitors.{MonitorState, buffer_alone, front_of, is_owed_by, leaving_of}
 use Rattle.fifo_buffer.specs.Monitors.{monitor_line, opposite}
 use Rattle.fifo_buffer.specs.declared.monitor_blocks.MonitorAsk.TheVariants as ask
-use Rattle.fifo_buffer.specs.declared.monitor_blocks.MonitorOut.TheVariants as out
+use Rattle.fifo_buffer.specs.declared.monitor_blocks.MonitorReply.TheVariants as out
 
 -- no thread waits in a line before this one: the line is empty, or the thread is its first
 abbrev pub NobodyBefore : Tid → List Tid → Type 0
@@ -65,7 +66,7 @@ pub record HasEffect (t : Tid) (call : MonitorAsk) (f : Effect) (next : Option S
   pub heeded : (side : Side) (u : Tid) → first (monitor_line side y) ≡ Some u
       → may_go side (buffer_alone y) ≡ true
       → (front_of side y ≡ Awake) ⊎ ((v : Tid) × (front_of side y ≡ Owed v))
-  pub told : next ≡ None → (side : Side) → is_owed_by t (front_of side y) ≡ false
+  pub abstract_answer : next ≡ None → (side : Side) → is_owed_by t (front_of side y) ≡ false
 
 -- the thread waits at the end of a side's line: another thread was before it, or the buffer does
 -- not allow its call. Nothing else changes, except that the thread sleeps if it is the first
@@ -88,10 +89,10 @@ pub record WakesFirst (t : Tid) (side : Side) (woke : Wake) (next : Option Side)
   pub lines : (at : Side) → monitor_line at y ≡ monitor_line at x
   pub opposite_front : front_of (opposite side) y ≡ front_of (opposite side) x
   pub buffer : buffer_alone y ≡ buffer_alone x
-  pub told : next ≡ None → (at : Side) → is_owed_by t (front_of at y) ≡ false
+  pub abstract_answer : next ≡ None → (at : Side) → is_owed_by t (front_of at y) ≡ false
 
 -- a section of a thread with this ask had this result, and made y of x
-pub data IsMonitorSection (t : Tid) : MonitorAsk → MonitorOut → MonitorState → MonitorState
+pub data IsMonitorSection (t : Tid) : MonitorAsk → MonitorReply → MonitorState → MonitorState
     → Type 0 where
   effect_had : {call : MonitorAsk} {f : Effect} {next : Option Side} {x y : MonitorState}
       → HasEffect t call f next x y

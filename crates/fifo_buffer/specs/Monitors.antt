@@ -17,8 +17,8 @@ use Rattle.fifo_buffer.specs.declared.monitor_blocks.Front.{Front, TheVariants.{
 use Rattle.fifo_buffer.specs.declared.monitor_blocks.Front.TheVariants.{Awake}
 use Rattle.fifo_buffer.specs.declared.monitor_blocks.MonitorAsk.{MonitorAsk}
 use Rattle.fifo_buffer.specs.declared.monitor_blocks.MonitorEdit.{MonitorEdit}
-use Rattle.fifo_buffer.specs.declared.monitor_blocks.MonitorOut.{MonitorOut, TheVariants.Acted}
-use Rattle.fifo_buffer.specs.declared.monitor_blocks.MonitorOut.TheVariants.{Refused, Woke}
+use Rattle.fifo_buffer.specs.declared.monitor_blocks.MonitorReply.{MonitorReply, TheVariants.Acted}
+use Rattle.fifo_buffer.specs.declared.monitor_blocks.MonitorReply.TheVariants.{Refused, Woke}
 use Rattle.event_log.specs.declared.entries.Kind.TheVariants as kind
 use Rattle.fifo_buffer.specs.declared.monitor_blocks.MonitorAsk.TheVariants as ask
 use Rattle.layer_traits.specs.declared.sleeps.Wake.TheVariants as leave
@@ -214,7 +214,7 @@ monitor_edited_by t (ask.WakeFirst side) x = first_woken side x
 
 -- the result of a section: its effect, and whom its thread owes a wake-up then; or that the thread
 -- waits on this side; or whom it woke, and whom it still owes
-abbrev pub monitor_told_by : Tid → MonitorAsk → MonitorState → MonitorOut
+abbrev pub monitor_told_by : Tid → MonitorAsk → MonitorState → MonitorReply
 monitor_told_by t (ask.Send m) x =
     if goes_now t Senders x
     then Acted (send_effect m x) (owed_next t Receivers (owing t (monitor_sent m x)))
@@ -229,25 +229,25 @@ monitor_told_by t (ask.WakeFirst side) x =
     Woke (leaving_of side (owed_first side x)) (owed_next t (opposite side) (first_woken side x))
 
 -- which list its caller joins
-abbrev pub monitor_joins : MonitorOut → Option WaitList
+abbrev pub monitor_joins : MonitorReply → Option WaitList
 monitor_joins (Acted effect next) = None
 monitor_joins (Refused side) = wait_list_for (Some side)
 monitor_joins (Woke woke next) = None
 
 -- the thread that leaves one
-abbrev pub monitor_leaves : MonitorOut → Wake
+abbrev pub monitor_leaves : MonitorReply → Wake
 monitor_leaves (Acted effect next) = leave.Nobody
 monitor_leaves (Refused side) = leave.Nobody
 monitor_leaves (Woke woke next) = woke
 
 -- the effect of a section with this result, if it had one
-abbrev pub monitor_effect : MonitorOut → Option Effect
+abbrev pub monitor_effect : MonitorReply → Option Effect
 monitor_effect (Acted effect next) = Some effect
 monitor_effect (Refused side) = None
 monitor_effect (Woke woke next) = None
 
 -- the side whose first its thread owes a wake-up after it
-abbrev pub owed_after : MonitorOut → Option Side
+abbrev pub owed_after : MonitorReply → Option Side
 owed_after (Acted effect next) = next
 owed_after (Refused side) = None
 owed_after (Woke woke next) = next
@@ -266,7 +266,7 @@ abbrev pub debtor_of : MonitorState → Option Tid
 debtor_of x = debtor x.first_receiver x.first_sender
 
 -- what the sections of a monitor mean
-abbrev pub monitor_rules : SleepRules MonitorEdit MonitorState MonitorOut
+abbrev pub monitor_rules : SleepRules MonitorEdit MonitorState MonitorReply
 monitor_rules = record {
   caller = λ e. e.thread;
   edited = λ e front x. monitor_edited_by e.thread e.ask x;

@@ -7,7 +7,7 @@ use Rattle.layer_traits.specs.Blocks.QueueBlocks.{inner}
 use Rattle.layer_traits.specs.declared.buffer_edits.BufferEdit.{BufferEdit, TheVariants.Enter}
 use Rattle.layer_traits.specs.declared.buffer_edits.BufferEdit.TheVariants.{TryPut, TryTake, Shut}
 use Rattle.layer_traits.specs.declared.conditions.CvEdit.TheVariants.{Edit, SignalFront}
-use Rattle.layer_traits.specs.declared.locked.QEdit.TheVariants.{Acquire, Inside, Release}
+use Rattle.layer_traits.specs.declared.locked.QLockCall.TheVariants.{Acquire, Inside, Release}
 use Rattle.layer_traits.specs.declared.{locked.Side.Side, queue_edits.QueueBlock.QueueBlock}
 use Rattle.layer_traits.specs.Layers.{Conditions.{CvCall, cv_rules}, QLockLaw.lock_kernel}
 use Rattle.layer_traits.specs.Layers.Queues.{QueueAllowed, buffer_sections}

@@ -5,9 +5,10 @@ use Rattle.std.specs.Prelude.{None, is_some}
 use Rattle.event_log.specs.declared.ids.{BufId.BufId, LockId.{LockId, TheVariants.Buffer}, Tid.Tid}
 use Rattle.{event_log.specs.History.same_lock, layer_traits.specs.declared.calls.Call.Call}
 use Rattle.layer_traits.specs.declared.calls.{Call.TheVariants.Close, Effect.Effect}
-use Rattle.layer_traits.specs.declared.{buffer_edits.BufferOut.BufferOut, conditions.CvOut.CvOut}
-use Rattle.layer_traits.specs.declared.locked.QOut.{QOut, TheVariants.{Acquired, Queued, Did}}
-use Rattle.layer_traits.specs.declared.locked.{QOut.TheVariants.Released, Side.Side}
+use Rattle.layer_traits.specs.declared.buffer_edits.BufferReply.{BufferReply}
+use Rattle.layer_traits.specs.declared.{conditions.CvReply.CvReply, locked.QLockReply.QLockReply}
+use Rattle.layer_traits.specs.declared.locked.QLockReply.TheVariants.{Acquired, Queued, Did}
+use Rattle.layer_traits.specs.declared.locked.{QLockReply.TheVariants.Released, Side.Side}
 use Rattle.layer_traits.specs.declared.locked.Side.TheVariants.{Receivers, Senders}
 use Rattle.layer_traits.specs.declared.call_states.Stage.{Stage, TheVariants.{Idle, Acquires}}
 use Rattle.layer_traits.specs.declared.call_states.Stage.TheVariants.{Tries, Waits, AcquiresAgain}
@@ -18,7 +19,7 @@ use Rattle.layer_traits.specs.Blocks.BufferProtocol.{BufferLock, BufferSection, 
 use Rattle.layer_traits.specs.{Blocks.BufferProtocol.has_tried_in_vain, Layers.BufferLaw.buffer_of}
 use Rattle.layer_traits.specs.{Layers.BufferLaw.{recorded, side_of}, Threads.Places.count_in}
 use Rattle.{layer_traits.specs.Threads.Places.one_if, thread_blocks.specs.Queues.is_in}
-use Rattle.layer_traits.specs.declared.conditions.CvOut.TheVariants as answer
+use Rattle.layer_traits.specs.declared.conditions.CvReply.TheVariants as answer
 
 -- whether two sides are one
 abbrev pub same_side : Side → Side → Bool
@@ -43,10 +44,10 @@ IsFreeOf t None = Unit {0}
 IsFreeOf t (Some lock) = (lock.owner ≢ Some t) × (is_in t lock.sleepers ≡ false)
 
 -- it holds the lock, or requests it, or neither
-abbrev pub Grip : Tid → Bool → Bool → Option BufferLock → Type 0
-Grip t true asks lock = HoldsLock t lock
-Grip t false true lock = Unit {0}
-Grip t false false lock = IsFreeOf t lock
+abbrev pub LockHolding : Tid → Bool → Bool → Option BufferLock → Type 0
+LockHolding t true asks lock = HoldsLock t lock
+LockHolding t false true lock = Unit {0}
+LockHolding t false false lock = IsFreeOf t lock
 
 -- what a stage implies of its thread: whether it holds its buffer's lock, given whether it waits;
 -- and whether it is in its line
@@ -101,7 +102,7 @@ module _ (opening : LockId → Option BufferLock) (past : List BufferSection) (t
   pub record Stance (b : BufId) (side : Side) (holds asks lined : Bool) (position : ℕ) : Type
       0 where
     pub grip : (lock : LockId)
-        → Grip t (holds && same_lock lock (Buffer b)) (asks && same_lock lock (Buffer b))
+        → LockHolding t (holds && same_lock lock (Buffer b)) (asks && same_lock lock (Buffer b))
         (buffer_lock_at opening past lock)
     pub line : (lock : LockId) (at : Side)
         → count_in t (line_at at (buffer_lock_at opening past lock))
@@ -144,20 +145,20 @@ call_state_in stage call position effect =
 
 -- what a section's result leaves of the marks of its caller: whether it sleeps for the lock, and
 -- whether it waits
-abbrev pub slept_by : BufId → QOut (CvOut BufferOut) → Option BufId
+abbrev pub slept_by : BufId → QLockReply (CvReply BufferReply) → Option BufId
 slept_by b Queued = Some b
 slept_by b other = None
 
-abbrev pub waits_reported : BufId → CvOut BufferOut → Option BufId
+abbrev pub waits_reported : BufId → CvReply BufferReply → Option BufId
 waits_reported b (answer.Waited side) = Some b
 waits_reported b other = None
 
-abbrev pub waits_by : BufId → QOut (CvOut BufferOut) → Option BufId
+abbrev pub waits_by : BufId → QLockReply (CvReply BufferReply) → Option BufId
 waits_by b (Released out) = waits_reported b out
 waits_by b other = None
 
 -- and of its call state: a caller that sleeps or waits has no result yet
-abbrev pub recorded_in : CallState → Stage → CvOut BufferOut → CallState
+abbrev pub recorded_in : CallState → Stage → CvReply BufferReply → CallState
 recorded_in call_state stage (answer.Did out) =
     recorded call_state stage (Released (answer.Did out))
 recorded_in call_state stage (answer.Signalled side front) =
@@ -165,7 +166,7 @@ recorded_in call_state stage (answer.Signalled side front) =
 recorded_in call_state stage answer.Left = recorded call_state stage (Released answer.Left)
 recorded_in call_state stage (answer.Waited side) = call_state
 
-abbrev pub recorded_by : CallState → Stage → QOut (CvOut BufferOut) → CallState
+abbrev pub recorded_by : CallState → Stage → QLockReply (CvReply BufferReply) → CallState
 recorded_by call_state stage Acquired = recorded call_state stage Acquired
 recorded_by call_state stage Queued = call_state
 recorded_by call_state stage (Did out) = recorded call_state stage (Did out)

@@ -2,12 +2,13 @@
 
 ghost use Rattle.std.specs.Prelude.{◌≡◌, ◌<◌, is_some, replicate, slice_set};
 ghost use Rattle.{event_log.specs.declared.ids.TheConstants.THREADS, layer_traits.specs.Layers.BufferLaw.{going, no_call, call_state_of}};
-ghost use Rattle.{layer_traits.specs.Blocks.Payloads.told_by, fifo_buffer.specs.SectionPolls.{outcome_of, recorded_if}};
+ghost use Rattle.{layer_traits.specs.Blocks.Payloads.abstract_result, fifo_buffer.specs.SectionPolls.{outcome_of, recorded_if}};
 
 use crate::sections::{begin, record_section};
 use event_log::{THREADS, Tid};
 use layer_traits::{
-    BareBufferOut, Call, CallState, CvOut, Effect, Outcome, Parcel, QOut, Stage, no_calls,
+    BareBufferReply, Call, CallState, CvReply, Effect, MessageSlot, Outcome, QLockReply, Stage,
+    no_calls,
 };
 
 /// The call state of each thread.
@@ -95,8 +96,8 @@ impl CallStates {
         t: Tid,
         call: &Call,
         stage: Stage,
-        answer: &Option<Outcome<QOut<CvOut<BareBufferOut>>>>,
-        parcel: &Parcel,
+        answer: &Option<Outcome<QLockReply<CvReply<BareBufferReply>>>>,
+        message_slot: &MessageSlot,
     ) -> bool
         requires known { t.0 < THREADS }
         requires stage { stage ≡ (going (call_state_of self.old.call_states t) call.now).stage }
@@ -104,7 +105,7 @@ impl CallStates {
         ensures call_states { self.new.call_states
             ≡ slice_set self.old.call_states t.0
             (recorded_if (going (call_state_of self.old.call_states t) call.now)
-            stage (told_by outcome_of answer.now parcel.now)) }
+            stage (abstract_result outcome_of answer.now message_slot.now)) }
     {
         let call_state = &mut self.call_states[usize::from(t.0)];
         if stage == Stage::Acquires {
@@ -113,7 +114,7 @@ impl CallStates {
         match answer {
             None => false,
             Some(outcome) => {
-                record_section(call_state, stage, &outcome.out, parcel);
+                record_section(call_state, stage, &outcome.out, message_slot);
                 true
             }
         }

@@ -45,33 +45,34 @@ impl<C: ThreadLayer<CvLaw<BufferEdit>>> Fifo<C> {
         requires known { t.0 < THREADS }
         requires stage { stage
             ≡ (going (call_state_of self.old.call_states.call_states t) call.now).stage }
-        requires fits { C.Fits self.old.lower m.old }
+        requires coupled { C.Coupled self.old.lower m.old }
         requires buffer { IsSome (C.opening m.old (Buffer (buffer_of call.now))) }
         requires room { 0 < C.room m.old }
-        requires sizes { Sizes (C.own self.old.lower) self.old.call_states.call_states }
-        requires may { MayPollSection (inner (C.opening m.old)) (buffer_sections (C.seen m.old)) t
+        requires sizes { Sizes (C.local self.old.lower) self.old.call_states.call_states }
+        requires may { MayPollSection (inner (C.opening m.old)) (buffer_sections (C.history m.old))
+            t
             call.now
             (going (call_state_of self.old.call_states.call_states t) call.now)
-            (C.own self.old.lower)
+            (C.local self.old.lower)
             (C.under_way self.old.lower) }
         ensures section_polled { SectionPolled (homes_in (C.opening m.old)) (λ c. C.ActsFor m.old c)
             (inner (C.opening m.old))
             (C.cpu_of self.old.lower) t call.now
-            (going (call_state_of self.old.call_states.call_states t) call.now) (C.seen m.old)
-            (C.seen m.new) (C.own self.old.lower) (C.own self.new.lower)
+            (going (call_state_of self.old.call_states.call_states t) call.now) (C.history m.old)
+            (C.history m.new) (C.local self.old.lower) (C.local self.new.lower)
             (C.under_way self.new.lower) result.ended
             (call_state_of self.new.call_states.call_states t) }
         ensures at_once { result.at_once ≡ is_at_once stage
-            (is_handed (C.own self.old.lower).lock.slept
-            (C.own self.old.lower).lock.sleep.threads.current) }
+            (is_handed (C.local self.old.lower).lock.slept
+            (C.local self.old.lower).lock.sleep.threads.current) }
         ensures call_states { self.new.call_states.call_states
             ≡ slice_set self.old.call_states.call_states t.0
             (call_state_of self.new.call_states.call_states t) }
         ensures calling { self.new.calling ≡ self.old.calling }
-        ensures woken { IsSome (slept_for (C.own self.old.lower).waits t) → m.new ≡ m.old }
-        ensures handed { IsSome (slept_for (C.own self.old.lower).lock.slept t) → m.new ≡ m.old }
-        ensures framed { Framed (λ (p : C) k. C.Fits p k) (λ p. C.cpu_of p) (λ k. C.opening k)
-            (λ k. C.site k) (λ k. C.room k)
+        ensures woken { IsSome (slept_for (C.local self.old.lower).waits t) → m.new ≡ m.old }
+        ensures handed { IsSome (slept_for (C.local self.old.lower).lock.slept t) → m.new ≡ m.old }
+        ensures framed { Framed (λ (p : C) k. C.Coupled p k) (λ p. C.cpu_of p) (λ k. C.opening k)
+            (λ k. C.machine_id k) (λ k. C.room k)
             (λ k c. C.ActsFor k c) (λ k c. C.MayHold k c) self.old.lower self.new.lower m.old
             m.new }
         ensures follows { C.IsStepwise
@@ -82,10 +83,10 @@ impl<C: ThreadLayer<CvLaw<BufferEdit>>> Fifo<C> {
             (stage_plan (homes_in (C.opening m.old)) (C.cpu_of self.old.lower) t call.now
             (going (call_state_of self.old.call_states.call_states t) call.now).stage
             (going (call_state_of self.old.call_states.call_states t) call.now)
-            (buffering (C.own self.old.lower) self.old.call_states.call_states))
+            (buffering (C.local self.old.lower) self.old.call_states.call_states))
             (C.acts m.old) (C.acts m.new)
             (record {
-              own = buffering (C.own self.new.lower) self.new.call_states.call_states;
+              local = buffering (C.local self.new.lower) self.new.call_states.call_states;
               answer =
                   if result.ended
                   then replied call.now
@@ -95,14 +96,14 @@ impl<C: ThreadLayer<CvLaw<BufferEdit>>> Fifo<C> {
             }) }
     {
         let at_once = answers_at_once(stage, self.lower.at_once());
-        let edit = section(t, call, stage, &mut self.payload.parcel);
+        let edit = section(t, call, stage, &mut self.payload.message_slot);
         let buffer = call.buffer();
         let answer = self
             .lower
             .poll(m, BufferCall { buffer, edit }, &mut self.payload);
         let ended = self
             .call_states
-            .record_answer(t, call, stage, &answer, &self.payload.parcel);
+            .record_answer(t, call, stage, &answer, &self.payload.message_slot);
         SectionPoll { ended, at_once }
     }
 
@@ -115,7 +116,7 @@ impl<C: ThreadLayer<CvLaw<BufferEdit>>> Fifo<C> {
             ≡ (if done then reply_at call.now stage
             (call_state_of self.old.call_states.call_states t).effect else None) }
         ensures calling { self.new.calling
-            ≡ calling_after t (C.own self.old.lower).lock.sleep.threads.current
+            ≡ calling_after t (C.local self.old.lower).lock.sleep.threads.current
             (answer_in self.old.call_states.call_states t result) }
         ensures lower { self.new.lower ≡ self.old.lower }
         ensures call_states { self.new.call_states.call_states ≡ self.old.call_states.call_states }
@@ -142,22 +143,22 @@ impl<C: ThreadLayer<CvLaw<BufferEdit>>> CallLayer<BufferLaw> for Fifo<C> {
 
     type Machine = C::Machine;
 
-    ghost seen = { λ m. effects_in (inner (C.opening m)) (buffer_sections (C.seen m)) };
+    ghost history = { λ m. effects_in (inner (C.opening m)) (buffer_sections (C.history m)) };
 
-    ghost moves = { λ m. moves_in (lock_kernel (cv_rules buffer_monitor_rules) (C.opening m)) (C.seen m) };
+    ghost moves = { λ m. moves_in (lock_kernel (cv_rules buffer_monitor_rules) (C.opening m)) (C.history m) };
 
     ghost wait_lists = { λ m b line. wait_list_in line
-        (lock_after (cv_rules buffer_monitor_rules) (inner (C.opening m)) (Buffer b) (buffer_sections (C.seen m))) };
+        (lock_after (cv_rules buffer_monitor_rules) (inner (C.opening m)) (Buffer b) (buffer_sections (C.history m))) };
 
     ghost ActsFor = { λ m c. C.ActsFor m c × BootsSo (C.opening m) };
 
     ghost room = { λ m. C.room m };
 
-    ghost site = { λ m. C.site m };
+    ghost machine_id = { λ m. C.machine_id m };
 
     ghost IsFresh = { λ m homes c. (C.ActsFor m c × BootsSo (C.opening m)) × C.IsOutside m c
-        × (effects_in (inner (C.opening m)) (buffer_sections (C.seen m)) ≡ [])
-        × (moves_in (lock_kernel (cv_rules buffer_monitor_rules) (C.opening m)) (C.seen m) ≡ [])
+        × (effects_in (inner (C.opening m)) (buffer_sections (C.history m)) ≡ [])
+        × (moves_in (lock_kernel (cv_rules buffer_monitor_rules) (C.opening m)) (C.history m) ≡ [])
         × (homes_in (C.opening m) ≡ homes) × IsSome (C.opening m (Pending c))
         × (inner (C.opening m) ≡ opening_locks (caps_in (C.opening m))) };
 
@@ -169,8 +170,8 @@ impl<C: ThreadLayer<CvLaw<BufferEdit>>> CallLayer<BufferLaw> for Fifo<C> {
 
     ghost under_way = { λ p. under_way_at p.calling (C.under_way p.lower) };
 
-    ghost Fits = { λ p m. C.Fits p.lower m
-        × PartFits (C.opening m) (C.cpu_of p.lower) (C.seen m) (C.own p.lower) p.call_states.call_states (C.under_way p.lower) p.calling };
+    ghost Coupled = { λ p m. C.Coupled p.lower m
+        × PartFits (C.opening m) (C.cpu_of p.lower) (C.history m) (C.local p.lower) p.call_states.call_states (C.under_way p.lower) p.calling };
 
     ghost IsWhole = { ⊥ };
 
@@ -180,7 +181,7 @@ impl<C: ThreadLayer<CvLaw<BufferEdit>>> CallLayer<BufferLaw> for Fifo<C> {
 
     ghost acts = { λ m. C.acts m };
 
-    ghost own = { λ p. buffering (C.own p.lower) p.call_states.call_states };
+    ghost local = { λ p. buffering (C.local p.lower) p.call_states.call_states };
 
     fn part(cpu: CpuId, homes: &[CpuId], buffers: u8) -> Self {
         Fifo {
@@ -286,30 +287,30 @@ impl<C: ThreadLayer<CvLaw<BufferEdit>>> CallLayer<BufferLaw> for Fifo<C> {
         self.lower.pass(m, call, &mut self.payload)
     }
 
-    ghost own_cpu = { λ p m fits. (C.own_cpu p.lower m fits.0, fits.1.boots) };
+    ghost own_cpu = { λ p m coupled. (C.own_cpu p.lower m coupled.0, coupled.1.boots) };
 
-    ghost lawful = { λ m c acts. fifo_lawful (C.opening m) (C.seen m) acts.1 (C.lawful m c acts.0) };
+    ghost lawful = { λ m c acts. fifo_lawful (C.opening m) (C.history m) acts.1 (C.lawful m c acts.0) };
 
-    ghost stands = { λ p m fits. (C.stands p.lower m fits.0).stands };
+    ghost stands = { λ p m coupled. (C.stands p.lower m coupled.0).stands };
 
     ghost moves_legal = { λ m c acts. C.moves_legal m c acts.0 };
 
-    ghost lists = { λ p m fits. fifo_wait_lists (C.opening m) (C.seen m) fits.1.boots (C.stands p.lower m fits.0).lists };
+    ghost lists = { λ p m coupled. fifo_wait_lists (C.opening m) (C.history m) coupled.1.boots (C.stands p.lower m coupled.0).lists };
 
     ghost starts = { λ m c acts. C.opens m c acts.0 };
 
     ghost legal = { λ m c acts. C.legal m c acts.0 };
 
-    ghost seen_is = { λ step m. ap (λ seen. effects_in (inner (C.opening m)) (buffer_sections seen)) (C.seen_is step m) };
+    ghost seen_is = { λ step m. ap (λ history. effects_in (inner (C.opening m)) (buffer_sections history)) (C.seen_is step m) };
 
-    ghost moves_are = { λ step m c acts. moves_read (C.opening m) (C.acts m) (C.opens m c acts.0) (C.proper step m c acts.0) (C.seen m) (C.seen_is step m)
+    ghost moves_are = { λ step m c acts. moves_read (C.opening m) (C.acts m) (C.opens m c acts.0) (C.proper step m c acts.0) (C.history m) (C.seen_is step m)
         (C.moves_legal m c acts.0) };
 
-    ghost busy = { λ p m fits. C.busy p.lower m fits.0 };
+    ghost busy = { λ p m coupled. C.busy p.lower m coupled.0 };
 
-    ghost idle = { λ p m fits nothing. C.idle p.lower m fits.0
-        (no_call_beneath (C.opening m) (C.cpu_of p.lower) (C.seen m) (C.own p.lower) p.call_states.call_states (C.under_way p.lower) p.calling
-        fits.1 nothing) };
+    ghost idle = { λ p m coupled nothing. C.idle p.lower m coupled.0
+        (no_call_beneath (C.opening m) (C.cpu_of p.lower) (C.history m) (C.local p.lower) p.call_states.call_states (C.under_way p.lower) p.calling
+        coupled.1 nothing) };
 
     ghost opens = { λ step m homes c fresh. opens_so (caps_in (C.opening m)) homes c (C.opening m) (C.opens m c fresh.0.0) fresh.4 fresh.5 fresh.6 };
 }
@@ -322,7 +323,7 @@ impl<C: OwnedThreadLayer<CvLaw<BufferEdit>>> OwnedBuffers for Fifo<C> {
     ghost use Rattle.fifo_buffer.specs.Laws.OwnedLaws.{block_there, closed_read, effects_known, items_acted, items_read, wait_lists_read, owner_read};
     ghost use Rattle.fifo_buffer.specs.OwnedLaws.{closed_of, items_in, wait_lists_of, buffer_lock_of, lock_owner_of};
 
-    ghost owner = { λ m b. owner_in (buffer_lock_of (C.opening m) (C.seen m) b) };
+    ghost owner = { λ m b. owner_in (buffer_lock_of (C.opening m) (C.history m) b) };
 
     ghost items_at = { λ m b. option_map items_in (C.block_at m b) };
 
@@ -390,43 +391,43 @@ impl<C: OwnedThreadLayer<CvLaw<BufferEdit>>> OwnedBuffers for Fifo<C> {
         self.lower.pends_here(d, t)
     }
 
-    ghost known = { λ m c acts. effects_known (inner (C.opening m)) (C.seen m) (C.known m c acts.0) };
+    ghost known = { λ m c acts. effects_known (inner (C.opening m)) (C.history m) (C.known m c acts.0) };
 
     ghost items = { λ m c b acts within. view_read
-        (parts_on (λ (p : Self). p.lower) (λ p. C.Fits p m) (λ (p : Self). Self.Fits p m) (λ p. C.cpu_of p) (C.MayHold m) (λ p fits. fits.0))
-        items_in (buffer_lock_of (C.opening m) (C.seen m) b) (λ p. C.block_with p b) (C.block_at m b)
-        (items_of (contents_of (caps_in (C.opening m)) (effects_in (inner (C.opening m)) (buffer_sections (C.seen m)))) b.0)
-        (items_read (C.opening m) acts.1 b within (C.seen m) (C.lawful m c acts.0))
+        (parts_on (λ (p : Self). p.lower) (λ p. C.Coupled p m) (λ (p : Self). Self.Coupled p m) (λ p. C.cpu_of p) (C.MayHold m) (λ p coupled. coupled.0))
+        items_in (buffer_lock_of (C.opening m) (C.history m) b) (λ p. C.block_with p b) (C.block_at m b)
+        (items_of (contents_of (caps_in (C.opening m)) (effects_in (inner (C.opening m)) (buffer_sections (C.history m)))) b.0)
+        (items_read (C.opening m) acts.1 b within (C.history m) (C.lawful m c acts.0))
         (C.shown m c b acts.0 (block_there (C.opening m) acts.1 b within)) };
 
     ghost closed = { λ m c b acts within. view_read
-        (parts_on (λ (p : Self). p.lower) (λ p. C.Fits p m) (λ (p : Self). Self.Fits p m) (λ p. C.cpu_of p) (C.MayHold m) (λ p fits. fits.0))
-        closed_of (buffer_lock_of (C.opening m) (C.seen m) b) (λ p. C.block_with p b) (C.block_at m b)
-        (is_closed (effects_in (inner (C.opening m)) (buffer_sections (C.seen m))) b.0)
-        (closed_read (C.opening m) acts.1 b within (C.seen m) (C.lawful m c acts.0))
+        (parts_on (λ (p : Self). p.lower) (λ p. C.Coupled p m) (λ (p : Self). Self.Coupled p m) (λ p. C.cpu_of p) (C.MayHold m) (λ p coupled. coupled.0))
+        closed_of (buffer_lock_of (C.opening m) (C.history m) b) (λ p. C.block_with p b) (C.block_at m b)
+        (is_closed (effects_in (inner (C.opening m)) (buffer_sections (C.history m))) b.0)
+        (closed_read (C.opening m) acts.1 b within (C.history m) (C.lawful m c acts.0))
         (C.shown m c b acts.0 (block_there (C.opening m) acts.1 b within)) };
 
     ghost owners = { λ m c b acts within. view_read
-        (parts_on (λ (p : Self). p.lower) (λ p. C.Fits p m) (λ (p : Self). Self.Fits p m) (λ p. C.cpu_of p) (C.MayHold m) (λ p fits. fits.0))
-        lock_owner_of (buffer_lock_of (C.opening m) (C.seen m) b) (λ p. C.block_with p b) (C.block_at m b)
-        (owner_in (buffer_lock_of (C.opening m) (C.seen m) b)) (owner_read (C.opening m) acts.1 b within (C.seen m))
+        (parts_on (λ (p : Self). p.lower) (λ p. C.Coupled p m) (λ (p : Self). Self.Coupled p m) (λ p. C.cpu_of p) (C.MayHold m) (λ p coupled. coupled.0))
+        lock_owner_of (buffer_lock_of (C.opening m) (C.history m) b) (λ p. C.block_with p b) (C.block_at m b)
+        (owner_in (buffer_lock_of (C.opening m) (C.history m) b)) (owner_read (C.opening m) acts.1 b within (C.history m))
         (C.shown m c b acts.0 (block_there (C.opening m) acts.1 b within)) };
 
-    ghost owner_is = { λ step m c b acts. owner_by_acts (C.opening m) (C.acts m) (C.opens m c acts.0) (C.proper step m c acts.0) (C.seen m)
+    ghost owner_is = { λ step m c b acts. owner_by_acts (C.opening m) (C.acts m) (C.opens m c acts.0) (C.proper step m c acts.0) (C.history m)
         (C.seen_is step m) b };
 
-    ghost items_are = { λ step m c b acts within. items_acted (C.opening m) acts.1 b within (C.seen m) (C.acts m) (C.opens m c acts.0)
+    ghost items_are = { λ step m c b acts within. items_acted (C.opening m) acts.1 b within (C.history m) (C.acts m) (C.opens m c acts.0)
         (C.proper step m c acts.0) (C.seen_is step m) (C.lawful m c acts.0) };
 
     ghost waiters_law = { λ m c b acts within. view_read
-        (parts_on (λ (p : Self). p.lower) (λ p. C.Fits p m) (λ (p : Self). Self.Fits p m) (λ p. C.cpu_of p) (C.MayHold m) (λ p fits. fits.0))
-        wait_lists_of (buffer_lock_of (C.opening m) (C.seen m) b) (λ p. C.block_with p b) (C.block_at m b)
-        (λ line. wait_list_in line (buffer_lock_of (C.opening m) (C.seen m) b)) (wait_lists_read (C.opening m) acts.1 b within (C.seen m))
+        (parts_on (λ (p : Self). p.lower) (λ p. C.Coupled p m) (λ (p : Self). Self.Coupled p m) (λ p. C.cpu_of p) (C.MayHold m) (λ p coupled. coupled.0))
+        wait_lists_of (buffer_lock_of (C.opening m) (C.history m) b) (λ p. C.block_with p b) (C.block_at m b)
+        (λ line. wait_list_in line (buffer_lock_of (C.opening m) (C.history m) b)) (wait_lists_read (C.opening m) acts.1 b within (C.history m))
         (C.shown m c b acts.0 (block_there (C.opening m) acts.1 b within)) };
 
     ghost queues = { λ m c d acts there. read_on
-        (parts_on (λ (p : Self). p.lower) (λ p. C.Fits p m) (λ (p : Self). Self.Fits p m) (λ p. C.cpu_of p) (C.MayHold m) (λ p fits. fits.0))
-        (λ p. C.queue_with p d) (C.queue_at m d) (pending_by (moves_in (lock_kernel (cv_rules buffer_monitor_rules) (C.opening m)) (C.seen m)) d)
+        (parts_on (λ (p : Self). p.lower) (λ p. C.Coupled p m) (λ (p : Self). Self.Coupled p m) (λ p. C.cpu_of p) (C.MayHold m) (λ p coupled. coupled.0))
+        (λ p. C.queue_with p d) (C.queue_at m d) (pending_by (moves_in (lock_kernel (cv_rules buffer_monitor_rules) (C.opening m)) (C.history m)) d)
         (C.queues m c d acts.0 there) };
 
     ghost holding = { C.holding };

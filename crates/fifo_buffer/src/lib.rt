@@ -24,7 +24,7 @@ pub use blocks::empty_blocks;
 pub use fifo::Fifo;
 pub use laws::{first_come_first_served, positions_are_counts};
 pub use monitor::Monitor;
-pub use monitor_blocks::{Front, MonitorAsk, MonitorBlock, MonitorEdit, MonitorOut};
+pub use monitor_blocks::{Front, MonitorAsk, MonitorBlock, MonitorEdit, MonitorReply};
 pub use monitor_laws::{
     free_monitors_strand_no_thread, monitor_loses_no_wake_up, monitor_sections_are_lawful,
     monitor_serves_in_order,

@@ -6,7 +6,7 @@ ghost use Rattle.{event_log.specs.declared.ids.TheConstants.THREADS, fifo_buffer
 ghost use Rattle.fifo_buffer.specs.MonitorParts.{monitor_recorded_if, monitor_reply};
 
 use crate::call_state_table::CallStates;
-use crate::monitor_blocks::{MonitorEdit, MonitorOut};
+use crate::monitor_blocks::{MonitorEdit, MonitorReply};
 use crate::monitor_calls::{monitor_section, record_out, reply_after};
 use crate::sections::begin;
 use arrayvec::ArrayVec;
@@ -37,7 +37,7 @@ impl<S: ThreadLayer<SleepLaw<MonitorEdit>>> Monitor<S> {
         &mut self,
         t: Tid,
         call: &Call,
-        outcome: &Option<Outcome<MonitorOut>>,
+        outcome: &Option<Outcome<MonitorReply>>,
     ) -> Option<ReplyKind>
         requires known { t.0 < THREADS }
         ensures call_states { self.new.call_states.call_states
@@ -46,7 +46,8 @@ impl<S: ThreadLayer<SleepLaw<MonitorEdit>>> Monitor<S> {
             (going (call_state_of self.old.call_states.call_states t) call.now) outcome.now) }
         ensures answer { answer_in self.new.call_states.call_states t result
             ≡ monitor_reply call.now (call_state_of self.new.call_states.call_states t) }
-        ensures calling { self.new.calling ≡ calling_after t (S.own self.old.lower).threads.current
+        ensures calling { self.new.calling
+            ≡ calling_after t (S.local self.old.lower).threads.current
             (answer_in self.new.call_states.call_states t result) }
         ensures lower { self.new.lower ≡ self.old.lower }
     {
@@ -74,21 +75,21 @@ impl<S: ThreadLayer<SleepLaw<MonitorEdit>>> CallLayer<BufferLaw> for Monitor<S> 
 
     type Machine = S::Machine;
 
-    ghost seen = { λ m. monitor_entries (inner (S.opening m)) (buffer_sections (S.seen m)) };
+    ghost history = { λ m. monitor_entries (inner (S.opening m)) (buffer_sections (S.history m)) };
 
-    ghost moves = { λ m. moves_in (sleep_kernel monitor_rules (S.opening m)) (S.seen m) };
+    ghost moves = { λ m. moves_in (sleep_kernel monitor_rules (S.opening m)) (S.history m) };
 
-    ghost wait_lists = { λ m b line. monitor_lists (inner (S.opening m)) (buffer_sections (S.seen m)) b line };
+    ghost wait_lists = { λ m b line. monitor_lists (inner (S.opening m)) (buffer_sections (S.history m)) b line };
 
     ghost ActsFor = { λ m c. S.ActsFor m c × OpensFresh (S.opening m) };
 
     ghost room = { λ m. S.room m };
 
-    ghost site = { λ m. S.site m };
+    ghost machine_id = { λ m. S.machine_id m };
 
     ghost IsFresh = { λ m homes c. (S.ActsFor m c × OpensFresh (S.opening m)) × S.IsOutside m c
-        × (monitor_entries (inner (S.opening m)) (buffer_sections (S.seen m)) ≡ [])
-        × (moves_in (sleep_kernel monitor_rules (S.opening m)) (S.seen m) ≡ [])
+        × (monitor_entries (inner (S.opening m)) (buffer_sections (S.history m)) ≡ [])
+        × (moves_in (sleep_kernel monitor_rules (S.opening m)) (S.history m) ≡ [])
         × (homes_in (viewed monitor_shown (S.opening m)) ≡ homes) × IsSome (S.opening m (Pending c)) };
 
     ghost MayHold = { λ m c. S.MayHold m c };
@@ -99,8 +100,8 @@ impl<S: ThreadLayer<SleepLaw<MonitorEdit>>> CallLayer<BufferLaw> for Monitor<S> 
 
     ghost under_way = { λ p. monitor_under p.calling (S.under_way p.lower) };
 
-    ghost Fits = { λ p m. S.Fits p.lower m
-        × MonitorFits (S.opening m) (S.own p.lower) p.call_states.call_states (S.under_way p.lower) p.calling };
+    ghost Coupled = { λ p m. S.Coupled p.lower m
+        × MonitorFits (S.opening m) (S.local p.lower) p.call_states.call_states (S.under_way p.lower) p.calling };
 
     ghost IsWhole = { ⊥ };
 
@@ -110,7 +111,7 @@ impl<S: ThreadLayer<SleepLaw<MonitorEdit>>> CallLayer<BufferLaw> for Monitor<S> 
 
     ghost acts = { λ m. [] };
 
-    ghost own = { λ p. monitor_own (S.own p.lower).threads p.call_states.call_states };
+    ghost local = { λ p. monitor_own (S.local p.lower).threads p.call_states.call_states };
 
     fn part(cpu: CpuId, homes: &[CpuId], buffers: u8) -> Self {
         Monitor {
@@ -163,19 +164,19 @@ impl<S: ThreadLayer<SleepLaw<MonitorEdit>>> CallLayer<BufferLaw> for Monitor<S> 
         self.lower.pass(m, call, &mut self.payload)
     }
 
-    ghost own_cpu = { λ p m fits. (S.own_cpu p.lower m fits.0, fits.1.fresh) };
+    ghost own_cpu = { λ p m coupled. (S.own_cpu p.lower m coupled.0, coupled.1.fresh) };
 
-    ghost lawful = { λ m c acts. monitor_lawful (inner (S.opening m)) (caps_in (viewed monitor_shown (S.opening m))) (buffer_sections (S.seen m)) acts.1 };
+    ghost lawful = { λ m c acts. monitor_lawful (inner (S.opening m)) (caps_in (viewed monitor_shown (S.opening m))) (buffer_sections (S.history m)) acts.1 };
 
-    ghost stands = { λ p m fits. at_viewed monitor_shown (S.opening m) (λ homes. Stands homes (S.cpu_of p.lower)
-        (moves_in (sleep_kernel monitor_rules (S.opening m)) (S.seen m)) (S.own p.lower).threads) (S.stands p.lower m fits.0).stands };
+    ghost stands = { λ p m coupled. at_viewed monitor_shown (S.opening m) (λ homes. Stands homes (S.cpu_of p.lower)
+        (moves_in (sleep_kernel monitor_rules (S.opening m)) (S.history m)) (S.local p.lower).threads) (S.stands p.lower m coupled.0).stands };
 
     ghost moves_legal = { λ m c acts. at_viewed monitor_shown (S.opening m)
-        (λ homes. AreMoves homes (moves_in (sleep_kernel monitor_rules (S.opening m)) (S.seen m))) (S.moves_legal m c acts.0) };
+        (λ homes. AreMoves homes (moves_in (sleep_kernel monitor_rules (S.opening m)) (S.history m))) (S.moves_legal m c acts.0) };
 
-    ghost lists = { λ p m fits. at_viewed monitor_shown (S.opening m) (λ homes. WaitListsAgree (length (caps_in (viewed monitor_shown (S.opening m)))) homes
-        (moves_in (sleep_kernel monitor_rules (S.opening m)) (S.seen m)) (monitor_lists (inner (S.opening m)) (buffer_sections (S.seen m))))
-        (monitor_wait_lists (S.opening m) (S.seen m) fits.1.fresh (S.stands p.lower m fits.0).lists) };
+    ghost lists = { λ p m coupled. at_viewed monitor_shown (S.opening m) (λ homes. WaitListsAgree (length (caps_in (viewed monitor_shown (S.opening m)))) homes
+        (moves_in (sleep_kernel monitor_rules (S.opening m)) (S.history m)) (monitor_lists (inner (S.opening m)) (buffer_sections (S.history m))))
+        (monitor_wait_lists (S.opening m) (S.history m) coupled.1.fresh (S.stands p.lower m coupled.0).lists) };
 
     ghost starts = { λ m c acts. starts_viewed monitor_shown (S.opening m) (S.opens m c acts.0) };
 
@@ -185,10 +186,10 @@ impl<S: ThreadLayer<SleepLaw<MonitorEdit>>> CallLayer<BufferLaw> for Monitor<S> 
 
     ghost moves_are = { λ step m c acts. absurd step };
 
-    ghost busy = { λ p m fits step. absurd step };
+    ghost busy = { λ p m coupled step. absurd step };
 
-    ghost idle = { λ p m fits none. S.idle p.lower m fits.0
-        (nothing_beneath (S.opening m) (S.own p.lower) p.call_states.call_states (S.under_way p.lower) p.calling fits.1 none) };
+    ghost idle = { λ p m coupled none. S.idle p.lower m coupled.0
+        (nothing_beneath (S.opening m) (S.local p.lower) p.call_states.call_states (S.under_way p.lower) p.calling coupled.1 none) };
 
     ghost opens = { λ step m homes c fresh. absurd step };
 }
@@ -203,7 +204,7 @@ impl<S: OwnedThreadLayer<SleepLaw<MonitorEdit>>> OwnedBuffers for Monitor<S> {
     ghost use Rattle.fifo_buffer.specs.Laws.MonitorOwned.{block_viewed_there, monitor_closed_read, monitor_debtor_read, monitor_entries_known};
     ghost use Rattle.fifo_buffer.specs.Laws.MonitorOwned.{monitor_items_read, monitor_lists_read, monitor_there};
 
-    ghost owner = { λ m b. debtor_in (monitor_after (inner (S.opening m)) (Buffer b) (buffer_sections (S.seen m))) };
+    ghost owner = { λ m b. debtor_in (monitor_after (inner (S.opening m)) (Buffer b) (buffer_sections (S.history m))) };
 
     ghost items_at = { λ m b. option_map monitor_items (S.block_at m b) };
 
@@ -267,27 +268,27 @@ impl<S: OwnedThreadLayer<SleepLaw<MonitorEdit>>> OwnedBuffers for Monitor<S> {
         self.lower.pends_here(d, t)
     }
 
-    ghost known = { λ m c acts. monitor_entries_known (inner (S.opening m)) (S.seen m) (S.known m c acts.0) };
+    ghost known = { λ m c acts. monitor_entries_known (inner (S.opening m)) (S.history m) (S.known m c acts.0) };
 
     ghost items = { λ m c b acts within. view_read
-        (parts_on (λ (p : Self). p.lower) (λ p. S.Fits p m) (λ (p : Self). Self.Fits p m) (λ p. S.cpu_of p) (S.MayHold m) (λ p fits. fits.0))
-        monitor_items (monitor_after (inner (S.opening m)) (Buffer b) (buffer_sections (S.seen m))) (λ p. S.block_with p b) (S.block_at m b)
-        (items_of (contents_of (caps_in (viewed monitor_shown (S.opening m))) (monitor_entries (inner (S.opening m)) (buffer_sections (S.seen m)))) b.0)
-        (monitor_items_read (S.opening m) acts.1 b within (buffer_sections (S.seen m)))
+        (parts_on (λ (p : Self). p.lower) (λ p. S.Coupled p m) (λ (p : Self). Self.Coupled p m) (λ p. S.cpu_of p) (S.MayHold m) (λ p coupled. coupled.0))
+        monitor_items (monitor_after (inner (S.opening m)) (Buffer b) (buffer_sections (S.history m))) (λ p. S.block_with p b) (S.block_at m b)
+        (items_of (contents_of (caps_in (viewed monitor_shown (S.opening m))) (monitor_entries (inner (S.opening m)) (buffer_sections (S.history m)))) b.0)
+        (monitor_items_read (S.opening m) acts.1 b within (buffer_sections (S.history m)))
         (S.shown m c b acts.0 (monitor_there (S.opening m) acts.1 b within)) };
 
     ghost closed = { λ m c b acts within. view_read
-        (parts_on (λ (p : Self). p.lower) (λ p. S.Fits p m) (λ (p : Self). Self.Fits p m) (λ p. S.cpu_of p) (S.MayHold m) (λ p fits. fits.0))
-        monitor_closed (monitor_after (inner (S.opening m)) (Buffer b) (buffer_sections (S.seen m))) (λ p. S.block_with p b) (S.block_at m b)
-        (is_closed (monitor_entries (inner (S.opening m)) (buffer_sections (S.seen m))) b.0)
-        (monitor_closed_read (S.opening m) acts.1 b within (buffer_sections (S.seen m)))
+        (parts_on (λ (p : Self). p.lower) (λ p. S.Coupled p m) (λ (p : Self). Self.Coupled p m) (λ p. S.cpu_of p) (S.MayHold m) (λ p coupled. coupled.0))
+        monitor_closed (monitor_after (inner (S.opening m)) (Buffer b) (buffer_sections (S.history m))) (λ p. S.block_with p b) (S.block_at m b)
+        (is_closed (monitor_entries (inner (S.opening m)) (buffer_sections (S.history m))) b.0)
+        (monitor_closed_read (S.opening m) acts.1 b within (buffer_sections (S.history m)))
         (S.shown m c b acts.0 (monitor_there (S.opening m) acts.1 b within)) };
 
     ghost owners = { λ m c b acts within. view_read
-        (parts_on (λ (p : Self). p.lower) (λ p. S.Fits p m) (λ (p : Self). Self.Fits p m) (λ p. S.cpu_of p) (S.MayHold m) (λ p fits. fits.0))
-        monitor_debtor (monitor_after (inner (S.opening m)) (Buffer b) (buffer_sections (S.seen m))) (λ p. S.block_with p b) (S.block_at m b)
-        (debtor_in (monitor_after (inner (S.opening m)) (Buffer b) (buffer_sections (S.seen m))))
-        (monitor_debtor_read (S.opening m) acts.1 b within (buffer_sections (S.seen m)))
+        (parts_on (λ (p : Self). p.lower) (λ p. S.Coupled p m) (λ (p : Self). Self.Coupled p m) (λ p. S.cpu_of p) (S.MayHold m) (λ p coupled. coupled.0))
+        monitor_debtor (monitor_after (inner (S.opening m)) (Buffer b) (buffer_sections (S.history m))) (λ p. S.block_with p b) (S.block_at m b)
+        (debtor_in (monitor_after (inner (S.opening m)) (Buffer b) (buffer_sections (S.history m))))
+        (monitor_debtor_read (S.opening m) acts.1 b within (buffer_sections (S.history m)))
         (S.shown m c b acts.0 (monitor_there (S.opening m) acts.1 b within)) };
 
     ghost owner_is = { λ step m c b acts. absurd step };
@@ -295,16 +296,16 @@ impl<S: OwnedThreadLayer<SleepLaw<MonitorEdit>>> OwnedBuffers for Monitor<S> {
     ghost items_are = { λ step m c b acts within. absurd step };
 
     ghost waiters_law = { λ m c b acts within. view_read
-        (parts_on (λ (p : Self). p.lower) (λ p. S.Fits p m) (λ (p : Self). Self.Fits p m) (λ p. S.cpu_of p) (S.MayHold m) (λ p fits. fits.0))
-        monitor_lists_of (monitor_after (inner (S.opening m)) (Buffer b) (buffer_sections (S.seen m))) (λ p. S.block_with p b) (S.block_at m b)
-        (λ line. monitor_lists (inner (S.opening m)) (buffer_sections (S.seen m)) b line)
-        (monitor_lists_read (S.opening m) acts.1 b within (buffer_sections (S.seen m)))
+        (parts_on (λ (p : Self). p.lower) (λ p. S.Coupled p m) (λ (p : Self). Self.Coupled p m) (λ p. S.cpu_of p) (S.MayHold m) (λ p coupled. coupled.0))
+        monitor_lists_of (monitor_after (inner (S.opening m)) (Buffer b) (buffer_sections (S.history m))) (λ p. S.block_with p b) (S.block_at m b)
+        (λ line. monitor_lists (inner (S.opening m)) (buffer_sections (S.history m)) b line)
+        (monitor_lists_read (S.opening m) acts.1 b within (buffer_sections (S.history m)))
         (S.shown m c b acts.0 (monitor_there (S.opening m) acts.1 b within)) };
 
     ghost queues = { λ m c d acts there. read_on
-        (parts_on (λ (p : Self). p.lower) (λ p. S.Fits p m) (λ (p : Self). Self.Fits p m) (λ p. S.cpu_of p) (S.MayHold m) (λ p fits. fits.0))
+        (parts_on (λ (p : Self). p.lower) (λ p. S.Coupled p m) (λ (p : Self). Self.Coupled p m) (λ p. S.cpu_of p) (S.MayHold m) (λ p coupled. coupled.0))
         (λ p. S.queue_with p d) (S.queue_at m d)
-        (pending_by (moves_in (sleep_kernel monitor_rules (S.opening m)) (S.seen m)) d)
+        (pending_by (moves_in (sleep_kernel monitor_rules (S.opening m)) (S.history m)) d)
         (S.queues m c d acts.0 (block_viewed_there (viewed_block monitor_shown) (S.opening m (Pending d)) there)) };
 
     ghost holding = { λ step m c held. absurd step };

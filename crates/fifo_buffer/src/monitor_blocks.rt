@@ -9,7 +9,7 @@ ghost use Rattle.fifo_buffer.specs.Monitors.{monitor_effect, monitor_told_by, ow
 
 use arrayvec::ArrayVec;
 use event_log::{CAPACITY, Kind, Msg, Ring, THREADS, Tid};
-use layer_traits::{Effect, Parcel, Side, Sleeps, WaitList, Wake};
+use layer_traits::{Effect, MessageSlot, Side, Sleeps, WaitList, Wake};
 use std::marker::Model;
 use thread_blocks::ThreadQueue;
 
@@ -37,7 +37,7 @@ pub struct MonitorEdit {
 
 /// The result of a section of a monitor.
 #[derive(Clone, Copy)]
-pub enum MonitorOut {
+pub enum MonitorReply {
     /// The call had this effect. Its thread owes the first of this side a wake-up, if any.
     Acted(Effect, Option<Side>),
     /// The call had no effect; its thread waits on this side.
@@ -47,15 +47,15 @@ pub enum MonitorOut {
     Woke(Wake, Option<Side>),
 }
 
-impl MonitorOut {
+impl MonitorReply {
     /// Returns the effect of the section, if it had one.
     #[inline(always)]
     pub fn effect(&self) -> Option<Effect>
         ensures { result ≡ monitor_effect self.now }
     {
         match *self {
-            MonitorOut::Acted(effect, _) => Some(effect),
-            MonitorOut::Refused(_) | MonitorOut::Woke(_, _) => None,
+            MonitorReply::Acted(effect, _) => Some(effect),
+            MonitorReply::Refused(_) | MonitorReply::Woke(_, _) => None,
         }
     }
 
@@ -65,8 +65,8 @@ impl MonitorOut {
         ensures { result ≡ owed_after self.now }
     {
         match *self {
-            MonitorOut::Acted(_, next) | MonitorOut::Woke(_, next) => next,
-            MonitorOut::Refused(_) => None,
+            MonitorReply::Acted(_, next) | MonitorReply::Woke(_, next) => next,
+            MonitorReply::Refused(_) => None,
         }
     }
 }
@@ -257,13 +257,13 @@ impl MonitorBlock {
 
     /// Sends `message` for `t`, if its call has its effect now. A closed buffer takes no message,
     /// and the effect says so. Otherwise `t` waits.
-    fn send(&mut self, t: Tid, message: &Msg) -> MonitorOut
+    fn send(&mut self, t: Tid, message: &Msg) -> MonitorReply
         ensures block { self.new ≡ monitor_edited_by t (Send message.now) self.old }
         ensures reported { result ≡ monitor_told_by t (Send message.now) self.old }
     {
         if !self.goes_now(t, Side::Senders) {
             self.wait(t, Side::Senders);
-            return MonitorOut::Refused(Side::Senders);
+            return MonitorReply::Refused(Side::Senders);
         }
         let effect = Effect {
             kind: if self.closed {
@@ -283,7 +283,7 @@ impl MonitorBlock {
         self.effects = effect.op.wrapping_add(1);
         self.sends = effect.pos.wrapping_add(1);
         self.owe(t);
-        MonitorOut::Acted(effect, self.owed_next(t, Side::Receivers))
+        MonitorReply::Acted(effect, self.owed_next(t, Side::Receivers))
     }
 
     /// Takes the first item for the first receiver, and leaves its line. If there is no item, the
@@ -312,21 +312,21 @@ impl MonitorBlock {
 
     /// Receives the first item for `t`, if its call has its effect now. If the buffer is closed and
     /// empty, the effect says so. Otherwise `t` waits.
-    fn receive(&mut self, t: Tid) -> MonitorOut
+    fn receive(&mut self, t: Tid) -> MonitorReply
         ensures block { self.new ≡ monitor_edited_by t Receive self.old }
         ensures reported { result ≡ monitor_told_by t Receive self.old }
     {
         if !self.goes_now(t, Side::Receivers) {
             self.wait(t, Side::Receivers);
-            return MonitorOut::Refused(Side::Receivers);
+            return MonitorReply::Refused(Side::Receivers);
         }
         let effect = self.take_first();
         self.owe(t);
-        MonitorOut::Acted(effect, self.owed_next(t, Side::Senders))
+        MonitorReply::Acted(effect, self.owed_next(t, Side::Senders))
     }
 
     /// Closes the buffer for `t`.
-    fn close(&mut self, t: Tid) -> MonitorOut
+    fn close(&mut self, t: Tid) -> MonitorReply
         ensures block { self.new ≡ monitor_edited_by t Close self.old }
         ensures reported { result ≡ monitor_told_by t Close self.old }
     {
@@ -340,11 +340,11 @@ impl MonitorBlock {
         self.effects = effect.op.wrapping_add(1);
         self.closes = effect.pos.wrapping_add(1);
         self.owe(t);
-        MonitorOut::Acted(effect, self.owed_next(t, Side::Receivers))
+        MonitorReply::Acted(effect, self.owed_next(t, Side::Receivers))
     }
 
     /// Wakes the first of this side, if some thread owes it that.
-    fn wake(&mut self, t: Tid, side: Side) -> MonitorOut
+    fn wake(&mut self, t: Tid, side: Side) -> MonitorReply
         ensures block { self.new ≡ monitor_edited_by t (WakeFirst side) self.old }
         ensures reported { result ≡ monitor_told_by t (WakeFirst side) self.old }
     {
@@ -356,7 +356,7 @@ impl MonitorBlock {
                     None
                 };
                 self.first_receiver = wake_first(self.first_receiver);
-                MonitorOut::Woke(
+                MonitorReply::Woke(
                     leaving(Side::Receivers, woke),
                     self.owed_next(t, Side::Senders),
                 )
@@ -368,7 +368,7 @@ impl MonitorBlock {
                     None
                 };
                 self.first_sender = wake_first(self.first_sender);
-                MonitorOut::Woke(
+                MonitorReply::Woke(
                     leaving(Side::Senders, woke),
                     self.owed_next(t, Side::Receivers),
                 )
@@ -456,33 +456,33 @@ impl Sleeps for MonitorEdit {
 
     type Block = MonitorBlock;
 
-    type Out = MonitorOut;
+    type Out = MonitorReply;
 
-    type Handed = MonitorEdit;
+    type Request = MonitorEdit;
 
-    type Brought = MonitorOut;
+    type Response = MonitorReply;
 
-    ghost rules = { monitor_rules };
+    ghost protocol = { monitor_rules };
 
-    ghost meant = { λ edit parcel. edit };
+    ghost abstract_call = { λ edit message_slot. edit };
 
-    ghost told = { λ out parcel. out };
+    ghost abstract_answer = { λ out message_slot. out };
 
     fn caller(edit: &MonitorEdit) -> Tid {
         edit.thread
     }
 
     // An edit contains its message.
-    fn whole(edit: &MonitorEdit, _parcel: &Parcel) -> MonitorEdit {
+    fn whole(edit: &MonitorEdit, _message_slot: &MessageSlot) -> MonitorEdit {
         *edit
     }
 
-    fn apply_handed(
+    fn apply_request(
         edit: &MonitorEdit,
         _first: Option<Tid>,
         block: &mut MonitorBlock,
-        _parcel: &mut Parcel,
-    ) -> MonitorOut {
+        _message_slot: &mut MessageSlot,
+    ) -> MonitorReply {
         match &edit.ask {
             MonitorAsk::Send(message) => block.send(edit.thread, message),
             MonitorAsk::Receive => block.receive(edit.thread),
@@ -491,18 +491,18 @@ impl Sleeps for MonitorEdit {
         }
     }
 
-    fn joins(out: &MonitorOut) -> Option<WaitList> {
+    fn joins(out: &MonitorReply) -> Option<WaitList> {
         match *out {
-            MonitorOut::Refused(Side::Senders) => Some(WaitList::Senders),
-            MonitorOut::Refused(Side::Receivers) => Some(WaitList::Receivers),
-            MonitorOut::Acted(_, _) | MonitorOut::Woke(_, _) => None,
+            MonitorReply::Refused(Side::Senders) => Some(WaitList::Senders),
+            MonitorReply::Refused(Side::Receivers) => Some(WaitList::Receivers),
+            MonitorReply::Acted(_, _) | MonitorReply::Woke(_, _) => None,
         }
     }
 
-    fn leaves(out: &MonitorOut) -> Wake {
+    fn leaves(out: &MonitorReply) -> Wake {
         match *out {
-            MonitorOut::Woke(woke, _) => woke,
-            MonitorOut::Acted(_, _) | MonitorOut::Refused(_) => Wake::Nobody,
+            MonitorReply::Woke(woke, _) => woke,
+            MonitorReply::Acted(_, _) | MonitorReply::Refused(_) => Wake::Nobody,
         }
     }
 }

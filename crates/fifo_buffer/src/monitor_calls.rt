@@ -4,7 +4,7 @@ ghost use Rattle.std.specs.Prelude.{◌≡◌, option_map};
 ghost use Rattle.layer_traits.specs.Layers.BufferLaw.{other_side, reply_with, side_of};
 ghost use Rattle.fifo_buffer.specs.MonitorParts.{acted_at, asked_of, monitor_recorded, monitor_reply, monitor_section, stage_by};
 
-use crate::monitor_blocks::{MonitorAsk, MonitorEdit, MonitorOut};
+use crate::monitor_blocks::{MonitorAsk, MonitorEdit, MonitorReply};
 use crate::sections::reply;
 use event_log::Tid;
 use layer_traits::{Call, CallState, Effect, Ghost, ReplyKind, Side, Stage};
@@ -62,16 +62,16 @@ pub fn monitor_section(t: Tid, call: &Call, stage: Stage) -> MonitorEdit
 
 /// Returns the stage of a call that has had its effect, and whose thread owes the first of this
 /// side a wake-up, if any.
-fn stage_by(own: Side, next: Option<Side>) -> Stage
-    ensures { result ≡ stage_by own next }
+fn stage_by(local: Side, next: Option<Side>) -> Stage
+    ensures { result ≡ stage_by local next }
 {
     match next {
         None => Stage::Idle,
-        Some(Side::Receivers) => match own {
+        Some(Side::Receivers) => match local {
             Side::Receivers => Stage::SignalsOwn,
             Side::Senders => Stage::Signals,
         },
-        Some(Side::Senders) => match own {
+        Some(Side::Senders) => match local {
             Side::Receivers => Stage::Signals,
             Side::Senders => Stage::SignalsOwn,
         },
@@ -95,15 +95,15 @@ fn acted_at(call: &Call, stage: Stage, effect: Option<Effect>) -> CallState
 }
 
 /// Records the result of a section of `call`.
-pub fn record_out(call_state: &mut CallState, call: &Call, out: &MonitorOut)
+pub fn record_out(call_state: &mut CallState, call: &Call, out: &MonitorReply)
     ensures { call_state.new ≡ monitor_recorded call.now call_state.old out.now }
 {
     match *out {
-        MonitorOut::Acted(effect, next) => {
+        MonitorReply::Acted(effect, next) => {
             *call_state = acted_at(call, stage_by(near_side(call), next), Some(effect));
         }
-        MonitorOut::Refused(_) => {}
-        MonitorOut::Woke(_, next) => {
+        MonitorReply::Refused(_) => {}
+        MonitorReply::Woke(_, next) => {
             *call_state = acted_at(call, stage_by(near_side(call), next), call_state.effect);
         }
     }

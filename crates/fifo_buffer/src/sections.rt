@@ -1,15 +1,15 @@
 //! The sections of a message call, stage by stage. No function allocates or blocks.
 
 ghost use Rattle.std.specs.Prelude.{◌≡◌, Option, option_map};
-ghost use Rattle.layer_traits.specs.{declared.{calls.Effect.Effect, payloads.Parcel.Parcel}, Layers.BufferLaw.{first_of, going, message_of, recorded}};
-ghost use Rattle.layer_traits.specs.Layers.BufferLaw.{other_side, enlisted, reply_by, reply_with, section_at, side_of, reported_by, tried, try_of};
-ghost use Rattle.layer_traits.specs.Blocks.Payloads.{buffer_meant, buffer_told, cv_meant, cv_told, lock_meant, lock_told};
-ghost use Rattle.fifo_buffer.specs.SectionPolls.{is_at_once, reply_at};
+ghost use Rattle.layer_traits.specs.{declared.{calls.Effect.Effect, payloads.MessageSlot.MessageSlot}, Layers.BufferLaw.{first_of, going, message_of}};
+ghost use Rattle.layer_traits.specs.Layers.BufferLaw.{recorded, other_side, enlisted, reply_by, reply_with, section_at, side_of, reported_by, tried, try_of};
+ghost use Rattle.layer_traits.specs.Blocks.Payloads.{abstract_buffer_edit, abstract_buffer_answer, abstract_cv_edit, abstract_cv_answer, abstract_lock_call};
+ghost use Rattle.{layer_traits.specs.Blocks.Payloads.abstract_lock_answer, fifo_buffer.specs.SectionPolls.{is_at_once, reply_at}};
 
 use event_log::{Kind, Msg, Tid};
 use layer_traits::{
-    BareBufferEdit, BareBufferOut, Call, CallState, CvEdit, CvLeave, CvOut, Effect, Ghost, Parcel,
-    QEdit, QOut, ReplyKind, Side, Stage,
+    BareBufferEdit, BareBufferReply, Call, CallState, CvEdit, CvLeave, CvReply, Effect, Ghost,
+    MessageSlot, QLockCall, QLockReply, ReplyKind, Side, Stage,
 };
 
 /// Returns a call's own side. A close signals the senders last.
@@ -37,7 +37,8 @@ fn far_side(call: &Call) -> Side
 /// Returns the edit with which a call enters its line, or closes the buffer.
 #[inline(always)]
 fn first_edit(t: Tid, call: &Call) -> BareBufferEdit
-    ensures { (parcel : Parcel) → buffer_meant result parcel ≡ first_of t call.now }
+    ensures { (message_slot : MessageSlot)
+        → abstract_buffer_edit result message_slot ≡ first_of t call.now }
 {
     match call {
         Call::Send(_, _) => BareBufferEdit::Enter(t, Side::Senders),
@@ -49,12 +50,12 @@ fn first_edit(t: Tid, call: &Call) -> BareBufferEdit
 /// Returns the edit that a call tries; a close never tries. A send stores its message in the
 /// payload.
 #[inline(always)]
-fn next_try(t: Tid, call: &Call, parcel: &mut Parcel) -> BareBufferEdit
-    ensures { buffer_meant result parcel.new ≡ try_of t call.now }
+fn next_try(t: Tid, call: &Call, message_slot: &mut MessageSlot) -> BareBufferEdit
+    ensures { abstract_buffer_edit result message_slot.new ≡ try_of t call.now }
 {
     match call {
         Call::Send(_, put) => {
-            parcel.message = *put;
+            message_slot.message = *put;
             BareBufferEdit::TryPut(t)
         }
         Call::Recv(_) => BareBufferEdit::TryTake(t),
@@ -89,18 +90,19 @@ pub fn section(
     t: Tid,
     call: &Call,
     stage: Stage,
-    parcel: &mut Parcel,
-) -> QEdit<CvEdit<BareBufferEdit>, CvLeave>
-    ensures { lock_meant (cv_meant buffer_meant) result parcel.new ≡ section_at t call.now stage }
+    message_slot: &mut MessageSlot,
+) -> QLockCall<CvEdit<BareBufferEdit>, CvLeave>
+    ensures { abstract_lock_call (abstract_cv_edit abstract_buffer_edit) result message_slot.new
+        ≡ section_at t call.now stage }
 {
     match stage {
-        Stage::Idle | Stage::Acquires | Stage::AcquiresAgain => QEdit::Acquire(t),
-        Stage::Enters => QEdit::Inside(CvEdit::Edit(first_edit(t, call))),
-        Stage::Tries => QEdit::Inside(CvEdit::Edit(next_try(t, call, parcel))),
-        Stage::Waits => QEdit::Release(CvLeave::Wait(t, own_side(call))),
-        Stage::Signals => QEdit::Inside(CvEdit::SignalFront(t, far_side(call))),
-        Stage::SignalsOwn => QEdit::Inside(CvEdit::SignalFront(t, own_side(call))),
-        Stage::Releases => QEdit::Release(CvLeave::Leave(t)),
+        Stage::Idle | Stage::Acquires | Stage::AcquiresAgain => QLockCall::Acquire(t),
+        Stage::Enters => QLockCall::Inside(CvEdit::Edit(first_edit(t, call))),
+        Stage::Tries => QLockCall::Inside(CvEdit::Edit(next_try(t, call, message_slot))),
+        Stage::Waits => QLockCall::Release(CvLeave::Wait(t, own_side(call))),
+        Stage::Signals => QLockCall::Inside(CvEdit::SignalFront(t, far_side(call))),
+        Stage::SignalsOwn => QLockCall::Inside(CvEdit::SignalFront(t, own_side(call))),
+        Stage::Releases => QLockCall::Release(CvLeave::Leave(t)),
     }
 }
 
@@ -118,50 +120,60 @@ pub fn begin(call_state: &mut CallState, call: &Call)
 
 /// Records the result of a section that entered a line or closed the buffer: the thread's position,
 /// or the effect of the close. The numbers are in the parcel.
-fn record_entry(call_state: &mut CallState, out: &QOut<CvOut<BareBufferOut>>, parcel: &Parcel)
+fn record_entry(
+    call_state: &mut CallState,
+    out: &QLockReply<CvReply<BareBufferReply>>,
+    message_slot: &MessageSlot,
+)
     ensures { call_state.new
         ≡ enlisted call_state.old
-        (reported_by (lock_told (cv_told buffer_told) out.now parcel.now)) }
+        (reported_by (abstract_lock_answer (abstract_cv_answer abstract_buffer_answer) out.now
+        message_slot.now)) }
 {
     match out {
-        QOut::Did(CvOut::Did(BareBufferOut::Entered)) => {
+        QLockReply::Did(CvReply::Did(BareBufferReply::Entered)) => {
             call_state.stage = Stage::Tries;
-            call_state.position = parcel.first;
+            call_state.position = message_slot.first;
         }
-        QOut::Did(CvOut::Did(BareBufferOut::WasShut)) => {
+        QLockReply::Did(CvReply::Did(BareBufferReply::WasShut)) => {
             call_state.stage = Stage::Signals;
             call_state.effect = Some(Effect {
                 kind: Kind::Close,
                 value: Msg::none(),
-                op: parcel.first,
-                pos: parcel.second,
+                op: message_slot.first,
+                pos: message_slot.second,
             });
         }
-        QOut::Did(CvOut::Did(BareBufferOut::NotYet | BareBufferOut::Done(_))) => {}
-        QOut::Did(CvOut::Signalled(_, _) | CvOut::Left | CvOut::Waited(_)) => {}
-        QOut::Acquired | QOut::Queued | QOut::Released(_) => {}
+        QLockReply::Did(CvReply::Did(BareBufferReply::NotYet | BareBufferReply::Done(_))) => {}
+        QLockReply::Did(CvReply::Signalled(_, _) | CvReply::Left | CvReply::Waited(_)) => {}
+        QLockReply::Acquired | QLockReply::Queued | QLockReply::Released(_) => {}
     }
 }
 
 /// Records the result of a try: its effect, with the message and the number that are in the parcel,
 /// or that the thread must wait.
-fn record_try(call_state: &mut CallState, out: &QOut<CvOut<BareBufferOut>>, parcel: &Parcel)
+fn record_try(
+    call_state: &mut CallState,
+    out: &QLockReply<CvReply<BareBufferReply>>,
+    message_slot: &MessageSlot,
+)
     ensures { call_state.new
-        ≡ tried call_state.old (reported_by (lock_told (cv_told buffer_told) out.now parcel.now)) }
+        ≡ tried call_state.old
+        (reported_by (abstract_lock_answer (abstract_cv_answer abstract_buffer_answer) out.now
+        message_slot.now)) }
 {
     match out {
-        QOut::Did(CvOut::Did(BareBufferOut::Done(kind))) => {
+        QLockReply::Did(CvReply::Did(BareBufferReply::Done(kind))) => {
             call_state.stage = Stage::Signals;
             call_state.effect = Some(Effect {
                 kind: *kind,
-                value: parcel.message,
-                op: parcel.first,
+                value: message_slot.message,
+                op: message_slot.first,
                 pos: call_state.position,
             });
         }
-        QOut::Did(_) | QOut::Acquired | QOut::Queued | QOut::Released(_) => {
-            call_state.stage = Stage::Waits
-        }
+        QLockReply::Did(_) | QLockReply::Acquired | QLockReply::Queued | QLockReply::Released(_) =>
+            { call_state.stage = Stage::Waits }
     }
 }
 
@@ -171,17 +183,19 @@ fn record_try(call_state: &mut CallState, out: &QOut<CvOut<BareBufferOut>>, parc
 pub fn record_section(
     call_state: &mut CallState,
     stage: Stage,
-    out: &QOut<CvOut<BareBufferOut>>,
-    parcel: &Parcel,
+    out: &QLockReply<CvReply<BareBufferReply>>,
+    message_slot: &MessageSlot,
 )
     ensures { call_state.new
-        ≡ recorded call_state.old stage (lock_told (cv_told buffer_told) out.now parcel.now) }
+        ≡ recorded call_state.old stage
+        (abstract_lock_answer (abstract_cv_answer abstract_buffer_answer) out.now
+        message_slot.now) }
 {
     match stage {
         Stage::Idle => {}
         Stage::Acquires => call_state.stage = Stage::Enters,
-        Stage::Enters => record_entry(call_state, out, parcel),
-        Stage::Tries => record_try(call_state, out, parcel),
+        Stage::Enters => record_entry(call_state, out, message_slot),
+        Stage::Tries => record_try(call_state, out, message_slot),
         Stage::Waits => call_state.stage = Stage::AcquiresAgain,
         Stage::AcquiresAgain => call_state.stage = Stage::Tries,
         Stage::Signals => call_state.stage = Stage::SignalsOwn,

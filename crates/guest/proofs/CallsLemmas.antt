@@ -2,9 +2,9 @@
 use Rattle.std.proofs.{Common.{◌≡◌, ◌==◌, ℕ, Bool, true, false, List, ◌∷◌, Option, refl, sym, ◌∙◌, subst, if◌then◌else◌, eqb-true}, lemmas.Bool.false≢true}
 use Rattle.event_log.specs.declared.{ids.BufId.BufId, entries.{Entry.Entry, Kind.TheVariants.{Send as SendKind, Recv as RecvKind, Close as CloseKind}}}
 use Rattle.{event_log.specs.declared.entries.Kind.TheVariants.{SendClosed, RecvClosed}, guest.specs.declared.instructions.{Register.Register, Source.Source}}
-use Rattle.guest.specs.{declared.instructions.{Into.Into, Instruction.{Instruction, TheVariants.{Set, Add, Sub, Jnz, Send, Recv, Close, Yield}}}, State.State}
-use Rattle.guest.specs.State.{next_of, register_value, moved_on, moved_to, after_local}
-use Rattle.guest.specs.{State.after_yield, Calls.{IsProgramsCalls, sets, adds, subtracts, jumps, goes_on, yields}}
+use Rattle.guest.specs.declared.instructions.{Target.Target, Instruction.{Instruction, TheVariants.{Set, Add, Sub, Jnz, Send, Recv, Close, Yield}}}
+use Rattle.guest.specs.{State.{State, next_of, register_value, moved_on, moved_to, after_local, after_yield}, Calls.{IsProgramsCalls, sets, adds, subtracts}}
+use Rattle.guest.specs.Calls.{jumps, goes_on, yields}
 
 after_jump : (program : List Instruction) (es : List Entry) (s : State) (r : Register) (k : ℕ) (b : Bool) → b ≡ (register_value s r == 0)
     → IsProgramsCalls program es s → next_of program s ≡ Jnz r k
@@ -21,9 +21,9 @@ local_at program es s (Jnz r k) at calls = after_jump program es s r k (register
 local_at program es s other at calls = calls
 
 -- an instruction that shares nothing leaves the list
-pub calls-local : (program : List Instruction) (es : List Entry) (s : State) → IsProgramsCalls program es s
+pub calls-local_is : (program : List Instruction) (es : List Entry) (s : State) → IsProgramsCalls program es s
     → IsProgramsCalls program es (after_local (next_of program s) s)
-calls-local program es s calls = local_at program es s (next_of program s) refl calls
+calls-local_is program es s calls = local_at program es s (next_of program s) refl calls
 
 yield_at : (program : List Instruction) (es : List Entry) (s : State) (i : Instruction) → next_of program s ≡ i → IsProgramsCalls program es s
     → IsProgramsCalls program es (after_yield i s)

@@ -7,7 +7,7 @@ use Rattle.std.specs.List.{join_with_byte, list_any}
 use Rattle.event_log.specs.{declared.ids.{BufId.BufId, TheConstants.BUFFERS}, Digits.{is_number, number_to}, Reading.{◌>>=◌}}
 use Rattle.event_log.proofs.DigitsLemmas.{ascii_digits, number_to-decimal, number_to-spelling, number_to-Some, decimal-spelled, is_number-spelled}
 use Rattle.guest.specs.declared.instructions.{TheConstants.REGISTERS, Register.{Register, TheVariants.{Reg0, Reg1, Reg2, Reg3, Reg4, Reg5, Reg6, Reg7}}}
-use Rattle.guest.specs.declared.instructions.{Source.TheVariants.{One as FromOne, First}, Into.TheVariants.{One as IntoOne, All as IntoAll}}
+use Rattle.guest.specs.declared.instructions.{Source.TheVariants.{One as FromOne, First}, Target.TheVariants.{One as IntoOne, All as IntoAll}}
 use Rattle.guest.specs.declared.instructions.Instruction.{Instruction, TheVariants.{Set, Add, Sub, Jnz, Send, Recv, Close, Yield, Exit}}
 use Rattle.guest.specs.{declared.refusals.GuestFault.{GuestFault, TheVariants.{BadNumber, BadTarget, UnknownWord}}, Instructions.{IsSource, IsTarget, IsWithin}}
 use Rattle.guest.specs.Language.{or_fault, register_in, word_in, buffer_in, words_in, target_in, pieces_in, line_in, one_piece, two_pieces, three_pieces}

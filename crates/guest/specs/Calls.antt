@@ -4,7 +4,7 @@ use Rattle.event_log.specs.declared.{ids.BufId.BufId, entries.Entry.Entry}
 use Rattle.event_log.specs.declared.entries.Kind.TheVariants.{Send as SendKind, Recv as RecvKind}
 use Rattle.event_log.specs.declared.entries.Kind.TheVariants.{Close as CloseKind, SendClosed}
 use Rattle.event_log.specs.declared.entries.Kind.TheVariants.{RecvClosed}
-use Rattle.guest.specs.declared.instructions.{Register.Register, Source.Source, Into.Into}
+use Rattle.guest.specs.declared.instructions.{Register.Register, Source.Source, Target.Target}
 use Rattle.guest.specs.declared.instructions.Instruction.{Instruction, TheVariants.{Set, Add, Sub}}
 use Rattle.guest.specs.declared.instructions.Instruction.TheVariants.{Jnz, Send, Recv, Close, Yield}
 use Rattle.guest.specs.{declared.instructions.Instruction.TheVariants.Exit, State.{State, at_start}}
@@ -38,7 +38,7 @@ pub data IsProgramsCalls (program : List Instruction) : List Entry → State →
       → next_of program s ≡ Send b from k
       → e.kind ≡ SendKind → e.buffer ≡ b → e.value ≡ message_from s from
       → IsProgramsCalls program (e ∷ es) (moved_on s)
-  receives : {es : List Entry} {s : State} (b : BufId) (into : Into) (k : Option ℕ) (e : Entry)
+  receives : {es : List Entry} {s : State} (b : BufId) (into : Target) (k : Option ℕ) (e : Entry)
       → IsProgramsCalls program es s
       → next_of program s ≡ Recv b into k
       → e.kind ≡ RecvKind → e.buffer ≡ b
@@ -51,7 +51,8 @@ pub data IsProgramsCalls (program : List Instruction) : List Entry → State →
       → next_of program s ≡ Send b from k
       → e.kind ≡ SendClosed → e.buffer ≡ b → e.value ≡ message_from s from
       → IsProgramsCalls program (e ∷ es) (moved_aside s k)
-  asks_in_vain : {es : List Entry} {s : State} (b : BufId) (into : Into) (k : Option ℕ) (e : Entry)
+  asks_in_vain : {es : List Entry} {s : State} (b : BufId) (into : Target) (k : Option ℕ)
+      (e : Entry)
       → IsProgramsCalls program es s
       → next_of program s ≡ Recv b into k
       → e.kind ≡ RecvClosed → e.buffer ≡ b → IsProgramsCalls program (e ∷ es) (moved_aside s k)

@@ -9,7 +9,7 @@ use Rattle.guest.specs.declared.instructions.{TheConstants.REGISTERS, Register.R
 use Rattle.guest.specs.declared.instructions.Register.TheVariants.{Reg0, Reg1, Reg2, Reg3, Reg4}
 use Rattle.guest.specs.declared.instructions.Register.TheVariants.{Reg5, Reg6, Reg7}
 use Rattle.guest.specs.declared.instructions.Source.TheVariants.{One as FromOne, First}
-use Rattle.guest.specs.declared.instructions.Into.TheVariants.{One as IntoOne, All}
+use Rattle.guest.specs.declared.instructions.Target.TheVariants.{One as IntoOne, All}
 use Rattle.guest.specs.declared.instructions.Instruction.{Instruction, TheVariants.{Set, Add, Sub}}
 use Rattle.guest.specs.declared.instructions.Instruction.TheVariants.{Jnz, Send, Recv, Close, Yield}
 use Rattle.guest.specs.declared.instructions.Instruction.TheVariants.{Exit}

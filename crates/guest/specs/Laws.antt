@@ -4,7 +4,7 @@ use Rattle.event_log.specs.declared.{ids.BufId.BufId, entries.Entry.Entry}
 use Rattle.event_log.specs.declared.entries.Kind.TheVariants.{Send as SendKind, Recv as RecvKind}
 use Rattle.event_log.specs.declared.entries.Kind.TheVariants.{Close as CloseKind, SendClosed}
 use Rattle.event_log.specs.declared.entries.Kind.TheVariants.{RecvClosed}
-use Rattle.guest.specs.declared.instructions.{Source.Source, Into.Into, Instruction.Instruction}
+use Rattle.guest.specs.declared.instructions.{Source.Source, Target.Target, Instruction.Instruction}
 use Rattle.guest.specs.declared.instructions.Instruction.TheVariants.{Send, Recv, Close}
 use Rattle.guest.specs.State.{State, next_of, message_from, after_local, after_send, after_recv}
 use Rattle.guest.specs.{State.{after_close, after_closed, after_yield}, Calls.IsProgramsCalls}
@@ -22,7 +22,8 @@ pub record StepsKeepCalls : Type 0 where
       → IsProgramsCalls program es s → next_of program s ≡ Send b from k
       → e.kind ≡ SendKind → e.buffer ≡ b → e.value ≡ message_from s from
       → IsProgramsCalls program (e ∷ es) (after_send (next_of program s) s)
-  pub at_recv : (program : List Instruction) (es : List Entry) (s : State) (b : BufId) (into : Into)
+  pub at_recv : (program : List Instruction) (es : List Entry) (s : State) (b : BufId)
+      (into : Target)
       (k : Option ℕ) (e : Entry)
       → IsProgramsCalls program es s → next_of program s ≡ Recv b into k
       → e.kind ≡ RecvKind → e.buffer ≡ b
@@ -36,7 +37,8 @@ pub record StepsKeepCalls : Type 0 where
       → IsProgramsCalls program es s → next_of program s ≡ Send b from k
       → e.kind ≡ SendClosed → e.buffer ≡ b → e.value ≡ message_from s from
       → IsProgramsCalls program (e ∷ es) (after_closed (next_of program s) s)
-  pub at_ask : (program : List Instruction) (es : List Entry) (s : State) (b : BufId) (into : Into)
+  pub at_ask : (program : List Instruction) (es : List Entry) (s : State) (b : BufId)
+      (into : Target)
       (k : Option ℕ) (e : Entry)
       → IsProgramsCalls program es s → next_of program s ≡ Recv b into k
       → e.kind ≡ RecvClosed → e.buffer ≡ b

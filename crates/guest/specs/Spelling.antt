@@ -4,7 +4,7 @@ use Rattle.std.specs.List.{join_with_byte}
 use Rattle.guest.specs.declared.instructions.Register.{Register, TheVariants.{Reg0, Reg1, Reg2}}
 use Rattle.guest.specs.declared.instructions.Register.TheVariants.{Reg3, Reg4, Reg5, Reg6, Reg7}
 use Rattle.guest.specs.declared.instructions.Source.TheVariants.{One as FromOne, First}
-use Rattle.guest.specs.declared.instructions.Into.TheVariants.{One as IntoOne, All}
+use Rattle.guest.specs.declared.instructions.Target.TheVariants.{One as IntoOne, All}
 use Rattle.guest.specs.declared.instructions.Instruction.{Instruction, TheVariants.{Set, Add, Sub}}
 use Rattle.guest.specs.declared.instructions.Instruction.TheVariants.{Jnz, Send, Recv, Close, Yield}
 use Rattle.guest.specs.{declared.instructions.Instruction.TheVariants.Exit, Instructions.IsWithin}

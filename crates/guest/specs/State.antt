@@ -4,7 +4,7 @@ use Rattle.std.specs.Prelude.{Some, None, slice_index, slice_set, if◌then◌el
 use Rattle.event_log.specs.Messages.{Message, first_word, padded}
 use Rattle.guest.specs.declared.instructions.{TheConstants.REGISTERS, Register.Register}
 use Rattle.guest.specs.declared.instructions.Source.{Source, TheVariants.{One as FromOne, First}}
-use Rattle.guest.specs.declared.instructions.Into.{Into, TheVariants.{One as IntoOne, All}}
+use Rattle.guest.specs.declared.instructions.Target.{Target, TheVariants.{One as IntoOne, All}}
 use Rattle.guest.specs.declared.instructions.Instruction.{Instruction, TheVariants.{Set, Add, Sub}}
 use Rattle.guest.specs.declared.instructions.Instruction.TheVariants.{Jnz, Send, Recv, Close, Yield}
 use Rattle.guest.specs.{declared.instructions.Instruction.TheVariants.Exit, Instructions.number_of}
@@ -42,7 +42,7 @@ moved_with s r n = record { line = s.line + 1; registers = slice_set s.registers
 
 -- at the following line, with what a receive brings: the message's first word in one register, or
 -- its words in the first registers and 0 in the others
-abbrev pub moved_into : State → Into → Message → State
+abbrev pub moved_into : State → Target → Message → State
 moved_into s (IntoOne r) message = moved_with s r (first_word message)
 moved_into s All message = record { line = s.line + 1; registers = padded message }
 

@@ -60,7 +60,7 @@ pub enum Source {
 
 /// Where a receive puts its words.
 #[derive(Clone, Copy, Debug, PartialEq, Eq)]
-pub enum Into {
+pub enum Target {
     /// The message's first word to one register. The other registers stay.
     One(Register),
     /// The message's words to the first registers, and 0 to the others.
@@ -85,7 +85,7 @@ pub enum Instruction {
     /// `recv b rD` receives a message from the buffer, of which the register takes the first word;
     /// `recvm b` receives one into all registers. If the buffer is closed and empty the registers
     /// are unchanged, and the next line is as for a send: `recv b rD k`, `recvm b k`.
-    Recv(BufId, Into, Option<usize>),
+    Recv(BufId, Target, Option<usize>),
     /// `close b`: closes the buffer.
     Close(BufId),
     /// `yield`: lets another thread of the CPU run.

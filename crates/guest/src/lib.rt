@@ -21,7 +21,7 @@ mod reading;
 mod refusals;
 mod threads;
 
-pub use instructions::{Instruction, Into, REGISTERS, Register, Source};
+pub use instructions::{Instruction, REGISTERS, Register, Source, Target};
 pub use laws::{instruction_has_one_line, steps_keep_calls};
 pub use programs::{LINES, Program};
 pub use refusals::{GuestError, GuestFault};

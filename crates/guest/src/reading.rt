@@ -6,7 +6,7 @@ ghost use Rattle.{event_log.specs.{declared.ids.TheConstants.BUFFERS, Reading.re
 ghost use Rattle.guest.specs.{declared.instructions.Source.TheVariants.First, Language.{register_in, word_in, buffer_in, words_in, target_in, one_piece}};
 ghost use Rattle.guest.specs.Language.{two_pieces, three_pieces, four_pieces, pieces_in, line_in, at_line, program_lines, GivesOrFaults};
 
-use crate::instructions::{Instruction, Into, REGISTERS, Register, Source};
+use crate::instructions::{Instruction, REGISTERS, Register, Source, Target};
 use crate::refusals::{GuestError, GuestFault};
 use event_log::{BUFFERS, BufId};
 use std::alloc::Global;
@@ -95,9 +95,9 @@ fn three_pieces(
         "sub" => Ok(Instruction::Sub(register(first)?, register(second)?)),
         "jnz" => Ok(Instruction::Jnz(register(first)?, target(second, count)?)),
         "send" => Ok(Instruction::Send(buffer(first)?, Source::One(register(second)?), None)),
-        "recv" => Ok(Instruction::Recv(buffer(first)?, Into::One(register(second)?), None)),
+        "recv" => Ok(Instruction::Recv(buffer(first)?, Target::One(register(second)?), None)),
         "sendm" => Ok(Instruction::Send(buffer(first)?, Source::First(words(second)?), None)),
-        "recvm" => Ok(Instruction::Recv(buffer(first)?, Into::All, Some(target(second, count)?))),
+        "recvm" => Ok(Instruction::Recv(buffer(first)?, Target::All, Some(target(second, count)?))),
         _ => Err(GuestFault::UnknownWord),
     }
 }
@@ -123,7 +123,7 @@ fn four_pieces(
         )),
         "recv" => Ok(Instruction::Recv(
             buffer(first)?,
-            Into::One(register(second)?),
+            Target::One(register(second)?),
             Some(target(third, count)?),
         )),
         "sendm" => Ok(Instruction::Send(
@@ -143,7 +143,7 @@ fn two_pieces(word: &str, first: &str) -> Result<Instruction, GuestFault>
 {
     match word {
         "close" => Ok(Instruction::Close(buffer(first)?)),
-        "recvm" => Ok(Instruction::Recv(buffer(first)?, Into::All, None)),
+        "recvm" => Ok(Instruction::Recv(buffer(first)?, Target::All, None)),
         _ => Err(GuestFault::UnknownWord),
     }
 }

@@ -1,7 +1,7 @@
 //! One thread's private state, and what each instruction makes of it. No call allocates memory or
 //! waits.
 
-use crate::instructions::{Instruction, Into, REGISTERS, Register, Source};
+use crate::instructions::{Instruction, REGISTERS, Register, Source, Target};
 use crate::programs::Program;
 use event_log::Msg;
 use std::marker::Model;
@@ -25,7 +25,7 @@ impl Model for Thread {
 
 impl Thread {
     ghost use Rattle.std.specs.Prelude.{◌≡◌, ◌<◌, length};
-    ghost use Rattle.guest.specs.{Instructions.{IsSource, IsWithin}, declared.instructions.Into.TheVariants.All, State.{at_start, next_of, after_local}};
+    ghost use Rattle.guest.specs.{Instructions.{IsSource, IsWithin}, declared.instructions.Target.TheVariants.All, State.{at_start, next_of, after_local}};
     ghost use Rattle.guest.specs.State.{after_yield, after_send, after_recv, after_close, after_closed, register_value, message_from, moved_on, moved_with};
     ghost use Rattle.guest.specs.State.{moved_into, moved_aside};
 
@@ -125,8 +125,8 @@ impl Thread {
     {
         if let Instruction::Recv(_, into, _) = program.instruction(self.line) {
             match into {
-                Into::One(register) => self.put(register, message.first()),
-                Into::All => self.put_all(message),
+                Target::One(register) => self.put(register, message.first()),
+                Target::All => self.put_all(message),
             }
         }
     }

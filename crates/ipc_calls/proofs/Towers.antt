@@ -3,12 +3,12 @@ use Rattle.std.proofs.{Common.{◌≡◌, ℕ, List, map, Option, Some, None, op
 use Rattle.{event_log.specs.declared.ids.{BufId.BufId, LockId.{LockId, TheVariants.Buffer}}, fifo_buffer.proofs.Opening.{boots_at, resting}}
 use Rattle.layer_traits.specs.{declared.queue_edits.QueueBlock.QueueBlock, Blocks.{BufferBlocks.{BufferState, empty_block}, BufferEffects.opening_locks}}
 use Rattle.layer_traits.{specs.{Blocks.QueueBlocks.{StartsWell, inner}, Views.Renaming.viewed}, proofs.KernelRenaming.{inner_viewed, starts_viewed}}
-use Rattle.{queuing_lock.specs.{declared.edits.QBlock.QBlock, Nested.{nested_lock_of, unowned}}, sleep_wakeup.specs.declared.edits.SleepBlock.SleepBlock}
-use Rattle.sleep_wakeup.specs.Nested.{state_of}
+use Rattle.queuing_lock.specs.{declared.edits.QLockBlock.QLockBlock, Nested.{nested_lock_of, unowned}}
+use Rattle.sleep_wakeup.specs.{declared.edits.SleepBlock.SleepBlock, Nested.state_of}
 use Rattle.sleep_wakeup.specs.Nested as nested
 
-module _ (opening : LockId → Option (QueueBlock (SleepBlock (QBlock BufferState)))) (caps : List ℕ) (buffers : List BufferState)
-    (locks : List (QBlock BufferState)) (blocks : List (SleepBlock (QBlock BufferState)))
+module _ (opening : LockId → Option (QueueBlock (SleepBlock (QLockBlock BufferState)))) (caps : List ℕ) (buffers : List BufferState)
+    (locks : List (QLockBlock BufferState)) (blocks : List (SleepBlock (QLockBlock BufferState)))
     (starts : StartsWell opening) (buffers_are : buffers ≡ map empty_block caps) (locks_are : locks ≡ map unowned buffers)
     (blocks_are : blocks ≡ map nested.resting locks) (at : (b : BufId) → inner opening (Buffer b) ≡ slice_get blocks b.0) where
   made : (o : Option BufferState) → option_map nested_lock_of (option_map state_of (option_map nested.resting (option_map unowned o))) ≡ option_map resting o

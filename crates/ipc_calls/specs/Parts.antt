@@ -16,16 +16,16 @@ pub record KeepsPlan (homes : List CpuId) (buffers : ℕ) (number cpu : CpuId) (
   pub count_is : buffers ≡ count
 
 -- a thread is not in the CPU's scheduling state
-pub record IsAway (t : Tid) (own : Threads) : Type 0 where
-  pub current : is_thread t own.current ≡ false
-  pub hand : is_thread t own.hand ≡ false
-  pub ready : is_in t own.ready ≡ false
-  pub ended : is_in t own.ended ≡ false
+pub record IsAway (t : Tid) (local : Threads) : Type 0 where
+  pub current : is_thread t local.current ≡ false
+  pub hand : is_thread t local.hand ≡ false
+  pub ready : is_in t local.ready ≡ false
+  pub ended : is_in t local.ended ≡ false
 
 -- whether a report says yes
 abbrev pub said : Option Bool → Bool
 said None = false
-said (Some told) = told
+said (Some abstract_answer) = abstract_answer
 
 -- whether the machine or the part reports that a thread is in a pending queue
 abbrev pub pends_read : Tid → Option (List Tid) → Option (List Tid) → Bool
@@ -46,10 +46,10 @@ asleep_at b Senders = place.WaitSend b
 -- A part can report nothing of a thread's place. The thread is not in the CPU's scheduling state.
 -- Neither the machine nor the part reports it in the pending queue of its home CPU or in a wait
 -- list of a buffer.
-pub record IsSilentOf (t : Tid) (own : Threads) (home : Option CpuId) (buffers : ℕ)
+pub record IsSilentOf (t : Tid) (local : Threads) (home : Option CpuId) (buffers : ℕ)
     (queue_at queue_with : CpuId → Option (List Tid))
     (wait_lists_at wait_lists_with : BufId → Option (WaitList → List Tid)) : Type 0 where
-  pub away : IsAway t own
+  pub away : IsAway t local
   pub pends : (d : CpuId) → home ≡ Some d → pends_read t (queue_at d) (queue_with d) ≡ false
   pub wait_lists : (b : BufId) → b.0 < buffers
       → wait_list_read t (wait_lists_at b) (wait_lists_with b) ≡ None

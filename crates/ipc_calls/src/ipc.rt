@@ -61,7 +61,7 @@ impl<B: CallLayer<BufferLaw>> CallLayer<IpcLaw> for Ipc<B> {
 
     type Machine = B::Machine;
 
-    ghost seen = { λ m. B.seen m };
+    ghost history = { λ m. B.history m };
 
     ghost moves = { λ m. B.moves m };
 
@@ -71,7 +71,7 @@ impl<B: CallLayer<BufferLaw>> CallLayer<IpcLaw> for Ipc<B> {
 
     ghost room = { λ m. B.room m };
 
-    ghost site = { λ m. B.site m };
+    ghost machine_id = { λ m. B.machine_id m };
 
     ghost IsFresh = { λ m homes c. B.IsFresh m homes c × (homes_in (B.opening m) ≡ homes) };
 
@@ -83,7 +83,7 @@ impl<B: CallLayer<BufferLaw>> CallLayer<IpcLaw> for Ipc<B> {
 
     ghost under_way = { λ p. B.under_way p.lower };
 
-    ghost Fits = { λ p m. B.Fits p.lower m
+    ghost Coupled = { λ p m. B.Coupled p.lower m
         × KeepsPlan (homes_in (B.opening m)) (length (caps_in (B.opening m))) (B.cpu_of p.lower) p.cpu p.homes.items p.buffers };
 
     ghost IsWhole = { B.IsWhole };
@@ -94,7 +94,7 @@ impl<B: CallLayer<BufferLaw>> CallLayer<IpcLaw> for Ipc<B> {
 
     ghost acts = { λ m. B.acts m };
 
-    ghost own = { λ p. B.own p.lower };
+    ghost local = { λ p. B.local p.lower };
 
     fn part(cpu: CpuId, homes: &[CpuId], buffers: u8) -> Self {
         Ipc {
@@ -164,17 +164,17 @@ impl<B: CallLayer<BufferLaw>> CallLayer<IpcLaw> for Ipc<B> {
         self.lower.pass(m, call)
     }
 
-    ghost own_cpu = { λ p m fits. B.own_cpu p.lower m fits.0 };
+    ghost own_cpu = { λ p m coupled. B.own_cpu p.lower m coupled.0 };
 
     ghost lawful = { B.lawful };
 
-    ghost stands = { λ p m fits. B.stands p.lower m fits.0 };
+    ghost stands = { λ p m coupled. B.stands p.lower m coupled.0 };
 
     ghost moves_legal = { B.moves_legal };
 
-    ghost lists = { λ p m fits. B.lists p.lower m fits.0 };
+    ghost lists = { λ p m coupled. B.lists p.lower m coupled.0 };
 
-    ghost idle = { λ p m fits. B.idle p.lower m fits.0 };
+    ghost idle = { λ p m coupled. B.idle p.lower m coupled.0 };
 
     ghost starts = { B.starts };
 
@@ -184,7 +184,7 @@ impl<B: CallLayer<BufferLaw>> CallLayer<IpcLaw> for Ipc<B> {
 
     ghost moves_are = { B.moves_are };
 
-    ghost busy = { λ p m fits. B.busy p.lower m fits.0 };
+    ghost busy = { λ p m coupled. B.busy p.lower m coupled.0 };
 
     ghost opens = { λ step m homes c fresh. B.opens step m homes c fresh.0 };
 }
@@ -196,20 +196,20 @@ impl<B: OwnedBuffers> Ipc<B> {
     fn own_place(&self, t: Tid) -> Option<Place>
         requires { B.cpu_of self.now.lower ≡ self.now.cpu }
         ensures observed { (x : Place) → result ≡ Some x
-            → IsOwnPlace (B.cpu_of self.now.lower) (threads_in (B.own self.now.lower)) t x }
-        ensures away { result ≡ None → IsAway t (threads_in (B.own self.now.lower)) }
+            → IsOwnPlace (B.cpu_of self.now.lower) (threads_in (B.local self.now.lower)) t x }
+        ensures away { result ≡ None → IsAway t (threads_in (B.local self.now.lower)) }
     {
-        let own = self.lower.own_threads();
-        if is_it(t, own.current()) {
+        let local = self.lower.own_threads();
+        if is_it(t, local.current()) {
             return Some(Place::Running(self.cpu));
         }
-        if is_it(t, own.hand()) {
+        if is_it(t, local.hand()) {
             return Some(Place::Hand(self.cpu));
         }
-        if own.is_ready(t) {
+        if local.is_ready(t) {
             return Some(Place::Ready(self.cpu));
         }
-        if own.has_ended(t) {
+        if local.has_ended(t) {
             return Some(Place::Ended);
         }
         None
@@ -287,7 +287,7 @@ impl<B: OpensBuffers> Owned for Ipc<B> {
 
     ghost owner_here = { λ p b. B.owner_with p.lower b };
 
-    ghost IsSilent = { λ p m t. IsSilentOf t (threads_in (B.own p.lower)) (home_of (homes_in (B.opening m)) t) (length (caps_in (B.opening m)))
+    ghost IsSilent = { λ p m t. IsSilentOf t (threads_in (B.local p.lower)) (home_of (homes_in (B.opening m)) t) (length (caps_in (B.opening m)))
         (B.queue_at m) (B.queue_with p.lower) (B.wait_lists_at m) (B.wait_lists_with p.lower) };
 
     fn open(
@@ -338,51 +338,51 @@ impl<B: OpensBuffers> Owned for Ipc<B> {
 
     ghost known = { B.known };
 
-    ghost items = { λ m c b acts within. read_under (λ (p : Self). p.lower) (λ p. B.Fits p m) (λ (p : Self). Self.Fits p m) (λ p. B.cpu_of p)
+    ghost items = { λ m c b acts within. read_under (λ (p : Self). p.lower) (λ p. B.Coupled p m) (λ (p : Self). Self.Coupled p m) (λ p. B.cpu_of p)
         (λ (p : Self). B.cpu_of p.lower) (B.MayHold m)
         (B.MayHold m) (λ p. B.items_with p b) (B.items_at m b)
-        (items_of (contents_of (caps_in (B.opening m)) (B.seen m)) b.0) (λ p fits. fits.0) (λ p fits. refl) (λ d inside. inside) (B.items m c b acts within) };
+        (items_of (contents_of (caps_in (B.opening m)) (B.history m)) b.0) (λ p coupled. coupled.0) (λ p coupled. refl) (λ d inside. inside) (B.items m c b acts within) };
 
-    ghost closed = { λ m c b acts within. read_under (λ (p : Self). p.lower) (λ p. B.Fits p m) (λ (p : Self). Self.Fits p m) (λ p. B.cpu_of p)
+    ghost closed = { λ m c b acts within. read_under (λ (p : Self). p.lower) (λ p. B.Coupled p m) (λ (p : Self). Self.Coupled p m) (λ p. B.cpu_of p)
         (λ (p : Self). B.cpu_of p.lower) (B.MayHold m)
         (B.MayHold m) (λ p. B.closed_with p b) (B.closed_at m b)
-        (is_closed (B.seen m) b.0) (λ p fits. fits.0) (λ p fits. refl) (λ d inside. inside) (B.closed m c b acts within) };
+        (is_closed (B.history m) b.0) (λ p coupled. coupled.0) (λ p coupled. refl) (λ d inside. inside) (B.closed m c b acts within) };
 
-    ghost owners = { λ m c b acts within. read_under (λ (p : Self). p.lower) (λ p. B.Fits p m) (λ (p : Self). Self.Fits p m) (λ p. B.cpu_of p)
+    ghost owners = { λ m c b acts within. read_under (λ (p : Self). p.lower) (λ p. B.Coupled p m) (λ (p : Self). Self.Coupled p m) (λ p. B.cpu_of p)
         (λ (p : Self). B.cpu_of p.lower) (B.MayHold m)
         (B.MayHold m) (λ p. B.owner_with p b) (B.owner_at m b)
-        (B.owner m b) (λ p fits. fits.0) (λ p fits. refl) (λ d inside. inside) (B.owners m c b acts within) };
+        (B.owner m b) (λ p coupled. coupled.0) (λ p coupled. refl) (λ d inside. inside) (B.owners m c b acts within) };
 
     ghost owner_is = { B.owner_is };
 
     ghost items_are = { B.items_are };
 
-    ghost place = { λ p m t fits there.
+    ghost place = { λ p m t coupled there.
         let home = home_there (homes_in (B.opening m)) t there in
-        let acts = B.own_cpu p.lower m fits.0 in
+        let acts = B.own_cpu p.lower m coupled.0 in
         let cpu = B.cpu_of p.lower in
         place_reads (record {
-          Fits = λ (q : Self). Self.Fits q m;
+          Coupled = λ (q : Self). Self.Coupled q m;
           cpu_of = λ (q : Self). B.cpu_of q.lower;
           IsInside = B.MayHold m;
           homes = homes_in (B.opening m);
           moves = B.moves m;
           n = length (caps_in (B.opening m));
           wait_lists = B.wait_lists m;
-          own = λ (q : Self). threads_in (B.own q.lower);
+          local = λ (q : Self). threads_in (B.local q.lower);
           queue_at = B.queue_at m;
           queue_with = λ (q : Self). B.queue_with q.lower;
           wait_lists_at = B.wait_lists_at m;
           wait_lists_with = λ (q : Self). B.wait_lists_with q.lower;
           lawful = B.moves_legal m cpu acts;
-          agree = B.lists p.lower m fits.0;
+          agree = B.lists p.lower m coupled.0;
           stands = λ q fit. B.stands q.lower m fit.0;
-          queues = λ u d at. read_under (λ (q : Self). q.lower) (λ q. B.Fits q m) (λ (q : Self). Self.Fits q m) (λ q. B.cpu_of q)
+          queues = λ u d at. read_under (λ (q : Self). q.lower) (λ q. B.Coupled q m) (λ (q : Self). Self.Coupled q m) (λ q. B.cpu_of q)
               (λ (q : Self). B.cpu_of q.lower) (B.MayHold m)
               (B.MayHold m) (λ q. B.queue_with q d) (B.queue_at m d)
               (pending_by (B.moves m) d) (λ q fit. fit.0) (λ q fit. refl) (λ d inside. inside)
               (B.queues m cpu d acts ((B.starts m cpu acts).queues u d at));
-          waiters_law = λ b within. read_under (λ (q : Self). q.lower) (λ q. B.Fits q m) (λ (q : Self). Self.Fits q m) (λ q. B.cpu_of q)
+          waiters_law = λ b within. read_under (λ (q : Self). q.lower) (λ q. B.Coupled q m) (λ (q : Self). Self.Coupled q m) (λ q. B.cpu_of q)
               (λ (q : Self). B.cpu_of q.lower) (B.MayHold m)
               (B.MayHold m) (λ q. B.wait_lists_with q b) (B.wait_lists_at m b)
               (B.wait_lists m b) (λ q fit. fit.0) (λ q fit. refl) (λ d inside. inside) (B.waiters_law m cpu b acts within);

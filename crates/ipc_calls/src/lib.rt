@@ -23,7 +23,7 @@ pub use stepwise::{
     tower_is_stepwise,
 };
 pub use tower::{
-    TowerBlock, TowerEdit, TowerHanded, TowerLaws, TowerLockLaws, TowerOver, part_over,
+    TowerBlock, TowerEdit, TowerLaws, TowerLockLaws, TowerOver, TowerRequest, part_over,
     tower_blocks,
 };
 pub use whole::{WholeBuffers, calls_are_whole};

@@ -8,12 +8,12 @@ use layer_traits::{
     BufferEdit, CvEdit, CvLeave, OwnedBuffers, OwnedLayer, OwnedThreadLayer, QueueLaw, SchedLaw,
     SleepLaw,
 };
-use queuing_lock::QLockEdit;
+use queuing_lock::QLockSection;
 use sleep_wakeup::SleepEdit;
 use std::alloc::Global;
 
 /// A call on the lock of a buffer.
-pub type LockEdit = QLockEdit<CvEdit<BufferEdit>, CvLeave>;
+pub type LockEdit = QLockSection<CvEdit<BufferEdit>, CvLeave>;
 
 /// A layer of buffers whose machine is opened with its buffers, and which reports the machine's
 /// blocks.
@@ -37,7 +37,7 @@ pub trait OpensBuffers: OwnedBuffers {
     ) -> Result<Self::Machine, NoMemory>
         requires { AreOpenable cpus caps.now homes.now }
         ensures opened { IfOk result (λ m.
-            Opened (caps_in (Self.opening m)) (homes_in (Self.opening m)) (Self.seen m)
+            Opened (caps_in (Self.opening m)) (homes_in (Self.opening m)) (Self.history m)
             (Self.moves m) (Self.room m) caps.now homes.now room) }
         ensures boot { IfOk result
             (λ m. inner (Self.opening m) ≡ opening_locks (caps_in (Self.opening m))) }
@@ -70,7 +70,7 @@ pub trait OpensQueues: OwnedLayer<QueueLaw<SleepEdit<LockEdit>>> {
         room: usize,
     ) -> Result<Self::Machine, NoMemory>
         requires { AreOpenable cpus caps.now homes.now }
-        ensures seen { IfOk result (λ m. Self.seen m ≡ []) }
+        ensures history { IfOk result (λ m. Self.history m ≡ []) }
         ensures room { IfOk result (λ m. room ≤ Self.room m) }
         ensures homes { IfOk result (λ m. homes_in (Self.opening m) ≡ homes.now) }
         ensures queues { IfOk result
@@ -105,7 +105,7 @@ pub trait OpensScheds: OwnedLayer<SchedLaw<SleepEdit<LockEdit>>> {
         room: usize,
     ) -> Result<Self::Machine, NoMemory>
         requires { AreOpenable cpus caps.now homes.now }
-        ensures seen { IfOk result (λ m. Self.seen m ≡ []) }
+        ensures history { IfOk result (λ m. Self.history m ≡ []) }
         ensures room { IfOk result (λ m. room ≤ Self.room m) }
         ensures homes { IfOk result (λ m. homes_in (Self.opening m) ≡ homes.now) }
         ensures queues { IfOk result
@@ -142,7 +142,7 @@ pub trait OpensLocks: OwnedThreadLayer<SleepLaw<LockEdit>> {
         room: usize,
     ) -> Result<Self::Machine, NoMemory>
         requires { AreOpenable cpus caps.now homes.now }
-        ensures seen { IfOk result (λ m. Self.seen m ≡ []) }
+        ensures history { IfOk result (λ m. Self.history m ≡ []) }
         ensures room { IfOk result (λ m. room ≤ Self.room m) }
         ensures homes { IfOk result (λ m. homes_in (Self.opening m) ≡ homes.now) }
         ensures queues { IfOk result

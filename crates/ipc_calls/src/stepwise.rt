@@ -11,7 +11,7 @@ use queuing_lock::QLock;
 use scheduler::Sched;
 use shared_queue::SharedQueues;
 use sleep_wakeup::Sleeper;
-use spinlock::{OwnedFairLock, SpinLock};
+use spinlock::{OwnedFifoLock, SpinLock};
 
 /// Critical sections of which each poll is one action.
 pub trait StepwiseSections: OwnedLocks<TowerEdit> {
@@ -19,7 +19,7 @@ pub trait StepwiseSections: OwnedLocks<TowerEdit> {
     ghost steps: { Self.IsStepwise };
 }
 
-impl<M: OwnedFairLock<LockProtocol, Edit = TowerEdit>, LockProtocol> StepwiseSections
+impl<M: OwnedFifoLock<LockProtocol, Edit = TowerEdit>, LockProtocol> StepwiseSections
     for SpinLock<M, LockProtocol> {
     ghost steps = { tt };
 }

@@ -13,12 +13,12 @@ use condvar::Cond;
 use event_log::{CpuId, LockId, NoMemory};
 use fifo_buffer::{Fifo, empty_blocks};
 use layer_traits::{
-    BareBufferEdit, BufferBlock, BufferEdit, BufferLaw, BufferOut, CallLayer, CvEdit, CvLaw,
-    CvLeave, CvOut, IpcLaw, Layer, LockLaw, LockStateOf, LockingOf, OwnThreads, OwnedLocks,
-    QLockLaw, QOut, QueueBlock, QueueEdit, QueueEvent, QueueLaw, SchedCall, SchedLaw, SectionOf,
-    SleepLaw, SleepStateOf, SleepingOf, WaitingOf,
+    BareBufferEdit, BufferBlock, BufferEdit, BufferLaw, BufferReply, CallLayer, CvEdit, CvLaw,
+    CvLeave, CvReply, IpcLaw, Layer, LockLaw, LockStateOf, LockingOf, OwnThreads, OwnedLocks,
+    QLockLaw, QLockReply, QueueBlock, QueueEdit, QueueEvent, QueueLaw, SchedCall, SchedLaw,
+    SectionOf, SleepLaw, SleepStateOf, SleepingOf, WaitingOf,
 };
-use queuing_lock::{QBlock, QLock, QLockEdit, lock_blocks};
+use queuing_lock::{QLock, QLockBlock, QLockSection, lock_blocks};
 use scheduler::Sched;
 use shared_queue::{SharedQueues, queue_blocks};
 use sleep_wakeup::{SleepBlock, SleepEdit, Sleeper, sleep_blocks};
@@ -29,10 +29,10 @@ use std::marker::PhantomData;
 pub type TowerEdit = QueueEdit<SleepEdit<LockEdit>>;
 
 /// The form in which layers pass a [`TowerEdit`] down: its message is in the payload.
-pub type TowerHanded = QueueEdit<SleepEdit<QLockEdit<CvEdit<BareBufferEdit>, CvLeave>>>;
+pub type TowerRequest = QueueEdit<SleepEdit<QLockSection<CvEdit<BareBufferEdit>, CvLeave>>>;
 
 /// What a lock of the tower guards: a pending queue, or a buffer under its lock and wait lists.
-pub type TowerBlock = QueueBlock<SleepBlock<QBlock<BufferBlock>>>;
+pub type TowerBlock = QueueBlock<SleepBlock<QLockBlock<BufferBlock>>>;
 
 /// One CPU's part of the layers from buffers down to shared queues, over a part `L` of critical
 /// sections.
@@ -54,13 +54,13 @@ pub type TowerLaws = PhantomData<
         SchedCall<SleepEdit<LockEdit>>,
         OwnThreads,
         SleepLaw<LockEdit>,
-        SleepStateOf<QBlock<BufferBlock>>,
-        SleepingOf<QOut<CvOut<BufferOut>>>,
+        SleepStateOf<QLockBlock<BufferBlock>>,
+        SleepingOf<QLockReply<CvReply<BufferReply>>>,
         QLockLaw<CvEdit<BufferEdit>>,
         LockStateOf<BufferBlock>,
-        LockingOf<CvOut<BufferOut>>,
+        LockingOf<CvReply<BufferReply>>,
         CvLaw<BufferEdit>,
-        WaitingOf<BufferOut>,
+        WaitingOf<BufferReply>,
         BufferLaw,
         IpcLaw,
     ),
@@ -112,7 +112,7 @@ pub fn part_over<L: Layer<LockLaw<TowerEdit>>>(
     requires buffers { length caps.now ≤ BUFFERS }
     requires acts { L.ActsFor m.now cpu }
     requires outside { L.IsOutside m.now cpu }
-    requires fresh { L.seen m.now ≡ [] }
+    requires fresh { L.history m.now ≡ [] }
     requires starts { StartsWell (L.opening m.now) }
     requires homes { homes_in (L.opening m.now) ≡ homes.now }
     requires queue { IsSome (L.opening m.now (Pending cpu)) }
@@ -120,9 +120,9 @@ pub fn part_over<L: Layer<LockLaw<TowerEdit>>>(
         ≡ opening_locks caps.now }
     ensures cpu { ⟦<Ipc<TowerOver<L>> as CallLayer<IpcLaw>>⟧.cpu_of result ≡ cpu }
     ensures under_way { ⟦<Ipc<TowerOver<L>> as CallLayer<IpcLaw>>⟧.under_way result ≡ None }
-    ensures call_states { (⟦<Ipc<TowerOver<L>> as CallLayer<IpcLaw>>⟧.own result).call_states
+    ensures call_states { (⟦<Ipc<TowerOver<L>> as CallLayer<IpcLaw>>⟧.local result).call_states
         ≡ replicate THREADS no_call }
-    ensures fits { ⟦<Ipc<TowerOver<L>> as CallLayer<IpcLaw>>⟧.Fits result m.now }
+    ensures coupled { ⟦<Ipc<TowerOver<L>> as CallLayer<IpcLaw>>⟧.Coupled result m.now }
 {
     let _ = m;
     let _laws: TowerLaws = PhantomData;

@@ -12,20 +12,20 @@ above_made : {B : Type 0} (above : Option B) → above_of (option_map Above abov
 above_made above = grind arith
 
 module _ (opening : LockId → Option (QueueBlock BufferLock)) (acts : BufferActs) (starts : StartsWell opening) (proper : AreProper (sections_in acts))
-    (seen : List (QueueEvent (CvCall BufferEdit))) (seen_is : seen ≡ map event_of (sections_in acts)) where
+    (history : List (QueueEvent (CvCall BufferEdit))) (seen_is : history ≡ map event_of (sections_in acts)) where
   -- a buffer's lock according to the history is what its block holds
-  pub lock_is : (b : BufId) → lock_after buffer_rules (inner opening) (Buffer b) (buffer_sections seen) ≡ above_of (guarded opening acts (Buffer b))
+  pub lock_is : (b : BufId) → lock_after buffer_rules (inner opening) (Buffer b) (buffer_sections history) ≡ above_of (guarded opening acts (Buffer b))
   lock_is b =
       ap (λ past. lock_after buffer_rules (inner opening) (Buffer b) (buffer_sections past)) seen_is
       ∙ (sym (above_made (lock_after buffer_rules (inner opening) (Buffer b) (buffer_sections (map event_of (sections_in acts)))))
       ∙ sym (ap above_of (proper_buffer (lock_rules buffer_rules) (lock_moves buffer_rules) opening starts b (sections_in acts) proper)))
 
-  pub owner_by_acts : (b : BufId) → owner_in (lock_after buffer_rules (inner opening) (Buffer b) (buffer_sections seen)) ≡ owner_after opening acts b
+  pub owner_by_acts : (b : BufId) → owner_in (lock_after buffer_rules (inner opening) (Buffer b) (buffer_sections history)) ≡ owner_after opening acts b
   owner_by_acts b = ap owner_in (lock_is b)
 
-  pub moves_read : AreMoves (homes_in opening) (moves_in (lock_kernel buffer_rules opening) seen)
-      → MovesAre opening acts (moves_in (lock_kernel buffer_rules opening) seen)
-      (λ b line. wait_list_in line (lock_after buffer_rules (inner opening) (Buffer b) (buffer_sections seen)))
+  pub moves_read : AreMoves (homes_in opening) (moves_in (lock_kernel buffer_rules opening) history)
+      → MovesAre opening acts (moves_in (lock_kernel buffer_rules opening) history)
+      (λ b line. wait_list_in line (lock_after buffer_rules (inner opening) (Buffer b) (buffer_sections history)))
   moves_read moving = record {
     made = ap (moves_in (lock_kernel buffer_rules opening)) seen_is;
     pending = λ d. rw seen_is

@@ -48,17 +48,17 @@ module _ {E B O : Type 0} (k : Kernel E B O) where
   moves_others c (e ∷ more) past others = (others.0, moves_others c more past others.1)
 
   -- the sections of the layer above are allowed if the calls are
-  pub upper_lawful : (log : List (QueueEvent E)) → IsLawful (QueueAllowed k) log → IsLawful (k.rules.allowed k.opening) (buffer_sections log)
+  pub upper_lawful : (log : List (QueueEvent E)) → IsLawful (QueueAllowed k) log → IsLawful (k.protocol.allowed k.opening) (buffer_sections log)
   upper_lawful [] lawful = tt
   upper_lawful (e ∷ past) lawful = grind (arith, upper_lawful past lawful.1)
 
   -- pushes and takings put no thread to sleep and wake none
-  pub sections_asleep : (past : List (QueueEvent E)) (u : Tid) → asleep_by (section_moves k.rules k.moves k.opening (buffer_sections past)) u
+  pub sections_asleep : (past : List (QueueEvent E)) (u : Tid) → asleep_by (section_moves k.protocol k.moves k.opening (buffer_sections past)) u
       ≡ asleep_by (moves_in k past) u
   sections_asleep [] u = refl
   sections_asleep (e ∷ past) u = grind (arith, sections_asleep past u)
 
-  module _ (wakes : WakesSleepers k.rules k.moves) where
+  module _ (wakes : WakesSleepers k.protocol k.moves) where
     sleeps : (past : List (QueueEvent E)) → IsLawful (QueueAllowed k) past → AreMoves k.homes (moves_in k past) → (c : CpuId) (b : BufId) (e : E)
         → CallAllowed k past c (OnBuffer b e) → (o : O) → out_at k past b e ≡ Some o → (u : Tid) → k.moves.woke o ≡ Some u
         → is_asleep (where_is k.homes (moves_in k past) u) ≡ true
@@ -83,13 +83,13 @@ module _ {E B O : Type 0} (k : Kernel E B O) where
   pass_moves c p past = grind arith
 
   -- a poll of a pass, only in moves
-  pub pass_polled : (ActsFor : CpuId → Type 0) (c : CpuId) (p : Pass) (result : Option (SchedAnswer O)) (old new : List (QueueEvent E)) (own own' : Threads)
-      → SchedPolled k ActsFor c (call.Pass p) result old new own own' → PassPolled k.homes ActsFor c p result (moves_in k old) (moves_in k new) own own'
-  pass_polled ActsFor c p result old new own own' polled = record {
+  pub pass_polled : (ActsFor : CpuId → Type 0) (c : CpuId) (p : Pass) (result : Option (SchedAnswer O)) (old new : List (QueueEvent E)) (local local' : Threads)
+      → SchedPolled k ActsFor c (call.Pass p) result old new local local' → PassPolled k.homes ActsFor c p result (moves_in k old) (moves_in k new) local local'
+  pass_polled ActsFor c p result old new local local' polled = record {
     others = moves_over polled.others old;
     foreign = λ d acts. moves_others d polled.others old (polled.foreign d acts);
     is = ap (moves_in k) polled.is ∙ by_answer (is_some result);
-    after = polled.after ∙ ap (λ moves. if is_some result then pass_after p (pending_by moves c) own else own) (moves_append polled.others old);
+    after = polled.after ∙ ap (λ moves. if is_some result then pass_after p (pending_by moves c) local else local) (moves_append polled.others old);
     at_once = polled.at_once;
   }
     where

@@ -2,8 +2,8 @@
 use Rattle.std.proofs.Common.{◌≡◌, ℕ, ◌+◌, ◌<◌, ◌%◌, ◌^◌, Bool, ◌&&◌, ◌==◌, List, [], ◌∷◌, ◌++◌, length, reverse, if◌then◌else◌, refl, ap, sym, ◌∙◌, subst}
 use Rattle.std.proofs.{Common.{arith, count_by, add_comm}, lemmas.List.{reverse-append, Sums.{count_by-le-length, sum_by-cons, sum_by_push}}}
 use Rattle.std.specs.Prelude.{nat_lt, slice_index}
-use Rattle.event_log.specs.{declared.entries.{Entry.Entry, Kind.TheVariants.Close}, Buffers.{IsAllowedEffect, items_of}, Runs.{IsNext, IsRun, after_entry}}
-use Rattle.{event_log.{specs.Runs.kind_eq, proofs.RunLemmas.{run_more, run_none}}, layer_traits.specs.Blocks.BufferEffects.contents_of}
+use Rattle.event_log.specs.{declared.entries.{Entry.Entry, Kind.TheVariants.Close}, Buffers.{IsAllowedEffect, items_of}, Runs.{IsNext, IsLegalHistory}}
+use Rattle.{event_log.{specs.Runs.{after_entry, kind_eq}, proofs.RunLemmas.{run_more, run_none}}, layer_traits.specs.Blocks.BufferEffects.contents_of}
 use Rattle.layer_traits.specs.Blocks.EffectRuns.{EffectsAreRun}
 
 turned : {E : Type 0} (e : E) (es : List E) → reverse (e ∷ es) ≡ reverse es ++ e ∷ []
@@ -32,5 +32,5 @@ effects_are_run caps (e ∷ es) lawful few =
       op = counted_exactly (λ (x : Entry). x.buffer.0 == e.buffer.0) es e.op fewer lawful.0.op;
       pos = counted_exactly (λ (x : Entry). (x.buffer.0 == e.buffer.0) && kind_eq x.kind e.kind) es e.pos fewer lawful.0.pos;
     } in
-    subst (λ order. IsRun caps order (after_entry (contents_of caps es) e)) (sym (turned e es))
+    subst (λ order. IsLegalHistory caps order (after_entry (contents_of caps es) e)) (sym (turned e es))
     (run_more caps (reverse es) (contents_of caps es) e (effects_are_run caps es lawful.1 fewer) next)

@@ -7,10 +7,10 @@ one_less n = omega arith
 
 pub untouched_stays : {M B : Type 0} (opening_of : M → LockId → Option B) (site_of : M → List ℕ) (room_of : M → ℕ) (ActsFor : M → CpuId → Type 0) (m : M)
     → Stays opening_of site_of room_of ActsFor m m
-untouched_stays opening_of site_of room_of ActsFor m = record { opening = refl; site = refl; room = one_less (room_of m); acts = λ c acts. acts }
+untouched_stays opening_of site_of room_of ActsFor m = record { opening = refl; machine_id = refl; room = one_less (room_of m); acts = λ c acts. acts }
 
 -- what stays in the lower layer stays under another view of the blocks
 pub viewed_stays : {M B C : Type 0} (view : (LockId → Option B) → LockId → Option C) {opening_of : M → LockId → Option B} {site_of : M → List ℕ}
     {room_of : M → ℕ} {ActsFor : M → CpuId → Type 0} {m n : M} → Stays opening_of site_of room_of ActsFor m n
     → Stays (λ k. view (opening_of k)) site_of room_of ActsFor m n
-viewed_stays view stays = record { opening = ap view stays.opening; site = stays.site; room = stays.room; acts = stays.acts }
+viewed_stays view stays = record { opening = ap view stays.opening; machine_id = stays.machine_id; room = stays.room; acts = stays.acts }

@@ -50,11 +50,11 @@ module _ {M : Type 0} where
     -- words that agree with the number of frees are the grant words
     pub words_as_grants : (words : List ℕ) → ((k : ℕ) → k < CPUS → WordFits k (frees lock log) (slice_index words k))
         → (k : ℕ) → k < CPUS → slice_index words k ≡ grant_word lock k (as_grants log)
-    words_as_grants words fits k within =
-        let told = (grants_agree log legal).legal in
+    words_as_grants words coupled k within =
+        let abstract_answer = (grants_agree log legal).legal in
         let count = ap (gives lock) (acts_as_grants same log legal) ∙ gives_acts same lock log in
-        one_word k (frees lock log) (slice_index words k) (grant_word lock k (as_grants log)) (fits k within)
-        (rw count at (words_fit same lock k within (as_grants log) told (legal_grants same (as_grants log) told)))
+        one_word k (frees lock log) (slice_index words k) (grant_word lock k (as_grants log)) (coupled k within)
+        (rw count at (words_fit same lock k within (as_grants log) abstract_answer (legal_grants same (as_grants log) abstract_answer)))
 
 -- what a poll found, in terms of grant words
 pub hits_as_grants : {E B : Type 0} (edited : E → B → B) (opening : LockId → Option B) (log : List (Event (Mark E))) → IsLegalWords log

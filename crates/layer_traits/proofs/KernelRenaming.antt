@@ -111,28 +111,29 @@ named_raised name f plan = grind arith
 -- theirs, and its blocks are views of the lower ones. What is edited, returned, opened and moved
 -- there is so here, and what is allowed there is allowed here.
 pub record Wraps {D E A B O : Type 0} (k : Kernel D A O) (j : Kernel E B O) (name : D → E) (view : A → B) : Type 0 where
-  pub edits : (d : D) (a : A) → view (k.rules.edited d a) ≡ j.rules.edited (name d) (view a)
-  pub answers : (d : D) (a : A) → k.rules.answer d a ≡ j.rules.answer (name d) (view a)
+  pub edits : (d : D) (a : A) → view (k.protocol.edited d a) ≡ j.protocol.edited (name d) (view a)
+  pub answers : (d : D) (a : A) → k.protocol.answer d a ≡ j.protocol.answer (name d) (view a)
   pub openings : (lock : LockId) → j.opening lock ≡ option_map view (k.opening lock)
   pub homes : j.homes ≡ k.homes
   pub callers : (d : D) → j.moves.caller (name d) ≡ k.moves.caller d
   pub slept : j.moves.slept ≡ k.moves.slept
   pub woke : j.moves.woke ≡ k.moves.woke
-  pub allowed : (past : List (Section D)) (s : Section D) → k.rules.allowed k.opening past s
-      → j.rules.allowed j.opening (map (renamed_section name) past) (renamed_section name s)
+  pub allowed : (past : List (Section D)) (s : Section D) → k.protocol.allowed k.opening past s
+      → j.protocol.allowed j.opening (map (renamed_section name) past) (renamed_section name s)
 
 module _ {D E A B O : Type 0} (k : Kernel D A O) (j : Kernel E B O) (name : D → E) (view : A → B) (wraps : Wraps k j name view) where
   open wraps use {edits, answers, openings, homes, callers, slept, woke, allowed}
 
   -- the block of a lock is the view of the lower layer's block
   pub block_renamed : (lock : LockId) (past : List (Section D))
-      → block_after j.rules.edited j.opening lock (map (renamed_section name) past) ≡ option_map view (block_after k.rules.edited k.opening lock past)
+      → block_after j.protocol.edited j.opening lock (map (renamed_section name) past) ≡ option_map view (block_after k.protocol.edited k.opening lock past)
   block_renamed lock past =
-      ap (λ (o : LockId → Option B). block_after j.rules.edited o lock (map (renamed_section name) past)) (λ i l. openings l i)
-      ∙ block_viewed (table_of k.rules) (table_of j.rules) (record { name = name; view = view; told = λ o. o; edits = edits; answers = answers })
+      ap (λ (o : LockId → Option B). block_after j.protocol.edited o lock (map (renamed_section name) past)) (λ i l. openings l i)
+      ∙ block_viewed (table_of k.protocol) (table_of j.protocol)
+      (record { name = name; view = view; abstract_answer = λ o. o; edits = edits; answers = answers })
       k.opening lock past
 
-  out_viewed : (d : D) (o : Option A) → option_map (j.rules.answer (name d)) (option_map view o) ≡ option_map (k.rules.answer d) o
+  out_viewed : (d : D) (o : Option A) → option_map (j.protocol.answer (name d)) (option_map view o) ≡ option_map (k.protocol.answer d) o
   out_viewed d o = grind (arith, answers)
 
   -- an edit has the same result
@@ -162,19 +163,19 @@ module _ {D E A B O : Type 0} (k : Kernel D A O) (j : Kernel E B O) (name : D �
   -- an edit that stays allowed here is allowed here after environment steps in the lower layer
   pub stays_renamed : (c : CpuId) (past : List (QueueEvent D)) (b : BufId) (d : D) → EditStays j c (renamed_events name past) (call.OnBuffer b (name d))
       → (more : List (QueueEvent D)) → AreOthers cpu_of_queue_event c more → IsLawful (QueueAllowed k) (more ++ past)
-      → j.rules.allowed j.opening (map (renamed_section name) (buffer_sections (more ++ past))) (section c (Buffer b) (name d))
+      → j.protocol.allowed j.opening (map (renamed_section name) (buffer_sections (more ++ past))) (section c (Buffer b) (name d))
   stays_renamed c past b d stays more others lawful =
-      subst (λ p. j.rules.allowed j.opening p (section c (Buffer b) (name d)))
+      subst (λ p. j.protocol.allowed j.opening p (section c (Buffer b) (name d)))
       (ap buffer_sections (sym (events_append name more past)) ∙ sections_renamed name (more ++ past))
       (stays (renamed_events name more) (events_others name c more others)
       (subst (IsLawful (QueueAllowed j)) (events_append name more past) (lawful_renamed (more ++ past) lawful)))
 
-  pub answered_renamed : (c : CpuId) (o : Option O) (own : Threads) → own_answered j.moves j.homes c o own ≡ own_answered k.moves k.homes c o own
-  answered_renamed c o own = grind (arith, homes, woke, slept)
+  pub answered_renamed : (c : CpuId) (o : Option O) (local : Threads) → own_answered j.moves j.homes c o local ≡ own_answered k.moves k.homes c o local
+  answered_renamed c o local = grind (arith, homes, woke, slept)
 
-  own_renamed : (c : CpuId) (past : List (QueueEvent D)) (s : SchedCall D) (own : Threads)
-      → own_after j c (renamed_events name past) (renamed_sched name s) own ≡ own_after k c past s own
-  own_renamed c past s own = grind (arith, moves_renamed, out_renamed, answered_renamed)
+  own_renamed : (c : CpuId) (past : List (QueueEvent D)) (s : SchedCall D) (local : Threads)
+      → own_after j c (renamed_events name past) (renamed_sched name s) local ≡ own_after k c past s local
+  own_renamed c past s local = grind (arith, moves_renamed, out_renamed, answered_renamed)
 
   report_renamed : (past : List (QueueEvent D)) (s : SchedCall D) → answer_to j (renamed_events name past) (renamed_sched name s) ≡ answer_to k past s
   report_renamed past s = grind (arith, out_renamed)
@@ -184,54 +185,55 @@ module _ {D E A B O : Type 0} (k : Kernel D A O) (j : Kernel E B O) (name : D �
   call_seen c s past = grind (arith, homes)
 
   local_renamed : (s : SchedCall D) → IsLocal (renamed_sched name s) → IsLocal s
-  local_renamed s local = grind arith
+  local_renamed s local_is = grind arith
 
   -- a poll of the lower layer is a poll here
   pub polled_renamed : (ActsFor : CpuId → Type 0) (c : CpuId) (s : SchedCall D) (result : Option (SchedAnswer O)) (old new : List (QueueEvent D))
-      (own own' : Threads) → SchedPolled k ActsFor c s result old new own own'
-      → SchedPolled j ActsFor c (renamed_sched name s) result (renamed_events name old) (renamed_events name new) own own'
-  polled_renamed ActsFor c s result old new own own' polled = record {
+      (local local' : Threads) → SchedPolled k ActsFor c s result old new local local'
+      → SchedPolled j ActsFor c (renamed_sched name s) result (renamed_events name old) (renamed_events name new) local local'
+  polled_renamed ActsFor c s result old new local local' polled = record {
     others = renamed_events name polled.others;
     foreign = λ d acts. events_others name d polled.others (polled.foreign d acts);
-    is = ap (renamed_events name) polled.is ∙ seen (is_some result);
+    is = ap (renamed_events name) polled.is ∙ history (is_some result);
     after = polled.after ∙ after (is_some result);
-    answers = told result polled.answers;
-    at_once = λ local. polled.at_once (local_renamed s local);
+    answers = abstract_answer result polled.answers;
+    at_once = λ local_is. polled.at_once (local_renamed s local_is);
   }
     where
       here : renamed_events name (polled.others ++ old) ≡ renamed_events name polled.others ++ renamed_events name old
       here = events_append name polled.others old
 
-      seen : (b : Bool) → renamed_events name (if b then events_of c (queue_call k.homes c s) ++ (polled.others ++ old) else polled.others ++ old)
+      history : (b : Bool) → renamed_events name (if b then events_of c (queue_call k.homes c s) ++ (polled.others ++ old) else polled.others ++ old)
           ≡ (if b then events_of c (queue_call j.homes c (renamed_sched name s)) ++
           (renamed_events name polled.others ++ renamed_events name old) else renamed_events name polled.others ++ renamed_events name old)
-      seen b = grind (arith, call_seen, here)
+      history b = grind (arith, call_seen, here)
 
-      after : (b : Bool) → (if b then own_after k c (polled.others ++ old) s own else own)
-          ≡ (if b then own_after j c (renamed_events name polled.others ++ renamed_events name old) (renamed_sched name s) own else own)
+      after : (b : Bool) → (if b then own_after k c (polled.others ++ old) s local else local)
+          ≡ (if b then own_after j c (renamed_events name polled.others ++ renamed_events name old) (renamed_sched name s) local else local)
       after b = grind (arith, own_renamed, here)
 
-      told : (r : Option (SchedAnswer O)) → MatchOption r (Unit {0}) (λ answer. answer_to k (polled.others ++ old) s ≡ Some answer)
+      abstract_answer : (r : Option (SchedAnswer O)) → MatchOption r (Unit {0}) (λ answer. answer_to k (polled.others ++ old) s ≡ Some answer)
           → MatchOption r (Unit {0}) (λ answer. answer_to j (renamed_events name polled.others ++ renamed_events name old) (renamed_sched name s) ≡ Some answer)
-      told None answer = tt
-      told (Some a) answer = ap (λ p. answer_to j p (renamed_sched name s)) (sym here) ∙ (report_renamed (polled.others ++ old) s ∙ answer)
+      abstract_answer None answer = tt
+      abstract_answer (Some a) answer = ap (λ p. answer_to j p (renamed_sched name s)) (sym here) ∙ (report_renamed (polled.others ++ old) s ∙ answer)
 
   -- Plans and actions.
 
-  by_renamed : (c : CpuId) (h : List CpuId) (own : Threads) (r : Option (QueueAnswer O)) → sched_left_by k.moves h c own r ≡ sched_left_by j.moves h c own r
-  by_renamed c h own r = grind (arith, woke, slept)
+  by_renamed : (c : CpuId) (h : List CpuId) (local : Threads) (r : Option (QueueAnswer O))
+      → sched_left_by k.moves h c local r ≡ sched_left_by j.moves h c local r
+  by_renamed c h local r = grind (arith, woke, slept)
 
   -- the plan of the lower layer is the plan here
-  pub plan_renamed : (h : List CpuId) (c : CpuId) (s : SchedCall D) (own : Threads)
-      → plan_named (renamed_edit name) (sched_plan k.moves h c s own) ≡ sched_plan j.moves h c (renamed_sched name s) own
-  plan_renamed h c s own = grind (arith, by_renamed)
+  pub plan_renamed : (h : List CpuId) (c : CpuId) (s : SchedCall D) (local : Threads)
+      → plan_named (renamed_edit name) (sched_plan k.moves h c s local) ≡ sched_plan j.moves h c (renamed_sched name s) local
+  plan_renamed h c s local = grind (arith, by_renamed)
 
   queue_edits : (m : QueueEdit D) (b : QueueBlock A)
-      → viewed_block view (queue_edited k.rules.edited m b) ≡ queue_edited j.rules.edited (renamed_edit name m) (viewed_block view b)
+      → viewed_block view (queue_edited k.protocol.edited m b) ≡ queue_edited j.protocol.edited (renamed_edit name m) (viewed_block view b)
   queue_edits m b = grind (arith, edits)
 
   queue_answers : (m : QueueEdit D) (b : QueueBlock A)
-      → queue_answer k.rules.answer m b ≡ queue_answer j.rules.answer (renamed_edit name m) (viewed_block view b)
+      → queue_answer k.protocol.answer m b ≡ queue_answer j.protocol.answer (renamed_edit name m) (viewed_block view b)
   queue_answers m b = grind (arith, answers)
 
   same_option : {X : Type 0} (o : Option X) → option_map (λ (x : X). x) o ≡ o
@@ -240,8 +242,8 @@ module _ {D E A B O : Type 0} (k : Kernel D A O) (j : Kernel E B O) (name : D �
   -- a poll that followed its plan in the lower layer followed it here
   pub follows_named : {S T : Type 0} (ActsFor : CpuId → Type 0) (opening : LockId → Option (QueueBlock A)) (cpu : CpuId)
       (plan : Plan (QueueEdit D) (QueueAnswer O) S T)
-      (old new : List (Action (QueueEdit D))) (got : Left S T) → Follows ActsFor (table_of (queue_rules k.rules k.moves)) opening cpu plan old new got
-      → Follows ActsFor (table_of (queue_rules j.rules j.moves)) (viewed view opening) cpu (plan_named (renamed_edit name) plan)
+      (old new : List (Action (QueueEdit D))) (got : Left S T) → Follows ActsFor (table_of (queue_rules k.protocol k.moves)) opening cpu plan old new got
+      → Follows ActsFor (table_of (queue_rules j.protocol j.moves)) (viewed view opening) cpu (plan_named (renamed_edit name) plan)
       (map (renamed (renamed_edit name)) old) (map (renamed (renamed_edit name)) new) got
   follows_named ActsFor opening cpu (Now left) old new got follows = (ap (map (renamed (renamed_edit name))) follows.0, follows.1)
   follows_named ActsFor opening cpu (Act lock m react) old new got follows = record {
@@ -253,8 +255,8 @@ module _ {D E A B O : Type 0} (k : Kernel D A O) (j : Kernel E B O) (name : D �
       grows = ap (map (renamed (renamed_edit name))) follows.acted.grows
           ∙ ap (λ a. a ∷ map (renamed (renamed_edit name)) follows.past) (sym (next_action_renamed (renamed_edit name) cpu lock m follows.past));
     };
-    moves = follows.moves ∙ ap react (sym (same_option (reply (table_of (queue_rules k.rules k.moves)) opening cpu lock m follows.past))
-        ∙ reply_viewed (table_of (queue_rules k.rules k.moves)) (table_of (queue_rules j.rules j.moves))
-        (record { name = renamed_edit name; view = viewed_block view; told = λ r. r; edits = queue_edits; answers = queue_answers })
+    moves = follows.moves ∙ ap react (sym (same_option (reply (table_of (queue_rules k.protocol k.moves)) opening cpu lock m follows.past))
+        ∙ reply_viewed (table_of (queue_rules k.protocol k.moves)) (table_of (queue_rules j.protocol j.moves))
+        (record { name = renamed_edit name; view = viewed_block view; abstract_answer = λ r. r; edits = queue_edits; answers = queue_answers })
         opening cpu lock m follows.past);
   }

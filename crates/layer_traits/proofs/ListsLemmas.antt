@@ -9,7 +9,7 @@ use Rattle.layer_traits.specs.{declared.sleeps.Wake.TheVariants.Sender, Threads.
 use Rattle.layer_traits.specs.Threads.{MoveRules.{slept_at, asleep_after, asleep_by}, Places.{WaitChannel, At, Moved, is_thread, is_wait_channel, one_if}}
 use Rattle.layer_traits.specs.{Threads.Places.count_in, Layers.Sleeping.{SleepRules, SleepState, joined, wait_list_joined, left, woken_by, wait_list_of}}
 use Rattle.layer_traits.specs.Layers.Sleeping.{wait_list_at, answer_above, sleep_edited, sleep_answer, sleep_woke, wait_list_after, sleep_rules, sleep_moves}
-use Rattle.layer_traits.{specs.Layers.Sleeping.{NobodySleeps, IsAwake}, proofs.CountLemmas.{count_append, count_front, in_counted, is_thread_self, not_counted}}
+use Rattle.layer_traits.{specs.Layers.Sleeping.{NoSleepers, IsAwake}, proofs.CountLemmas.{count_append, count_front, in_counted, is_thread_self, not_counted}}
 use Rattle.thread_blocks.{specs.Queues.{same_tid, is_in, first, rest, without}, proofs.Members.same_tid_true}
 
 -- Counts.
@@ -174,64 +174,66 @@ abbrev woke_in : {O : Type 0} → Option (Outcome O) → Option Tid
 woke_in None = None
 woke_in (Some outcome) = outcome.woke
 
-module _ {E B O : Type 0} (rules : SleepRules E B O) (opening : LockId → Option (SleepState B)) where
+module _ {E B O : Type 0} (protocol : SleepRules E B O) (opening : LockId → Option (SleepState B)) where
   -- the block of a lock after these sections
   abbrev after : LockId → List (Section E) → Option (SleepState B)
-  after lock past = block_after (sleep_edited rules) opening lock past
+  after lock past = block_after (sleep_edited protocol) opening lock past
 
   -- where a thread sleeps after them
   abbrev asleep : List (Section E) → Tid → Option WaitChannel
-  asleep past t = asleep_by (section_moves (sleep_rules rules) (sleep_moves rules) opening past) t
+  asleep past t = asleep_by (section_moves (sleep_rules protocol) (sleep_moves protocol) opening past) t
 
   edited_is : (line : WaitList) (e : E) (state : SleepState B)
-      → wait_list_of line (sleep_edited rules e state) ≡ wait_list_after rules line e state (wait_list_of line state)
+      → wait_list_of line (sleep_edited protocol e state) ≡ wait_list_after protocol line e state (wait_list_of line state)
   edited_is line e state = grind arith
 
-  edited_agrees : (lock : LockId) (past : List (Section E)) (s : Section E) (state : SleepState B) → IsAwake rules opening past s
+  edited_agrees : (lock : LockId) (past : List (Section E)) (s : Section E) (state : SleepState B) → IsAwake protocol opening past s
       → Agrees lock (λ line. wait_list_of line state) (asleep past) → (line : WaitList) (t : Tid)
-      → count_in t (wait_list_of line (sleep_edited rules s.edit state))
-      ≡ one_if (is_at lock line (asleep_after (Moved lock (rules.caller s.edit) (rules.joins (answer_above rules s.edit state))
-      (sleep_woke rules s.edit state)) t (asleep past t)))
+      → count_in t (wait_list_of line (sleep_edited protocol s.edit state))
+      ≡ one_if (is_at lock line (asleep_after (Moved lock (protocol.caller s.edit) (protocol.joins (answer_above protocol s.edit state))
+      (sleep_woke protocol s.edit state)) t (asleep past t)))
   edited_agrees lock past s state awake agrees line t =
       ap (count_in t) (edited_is line s.edit state) ∙ own_agrees lock (λ l. wait_list_of l state) (asleep past) agrees
-      (rules.leaves (answer_above rules s.edit state)) (rules.caller s.edit) awake.awake awake.small (rules.joins (answer_above rules s.edit state)) line t
+      (protocol.leaves (answer_above protocol s.edit state)) (protocol.caller s.edit) awake.awake awake.small
+      (protocol.joins (answer_above protocol s.edit state)) line t
 
-  agree_step : (past : List (Section E)) (s : Section E) → IsAwake rules opening past s
+  agree_step : (past : List (Section E)) (s : Section E) → IsAwake protocol opening past s
       → ((lock : LockId) → Agrees lock (λ line. wait_list_at line (after lock past)) (asleep past))
       → (lock : LockId) → Agrees lock (λ line. wait_list_at line (after lock (s ∷ past))) (asleep (s ∷ past))
   agree_step past s awake agree lock line t = go (after s.lock past) refl (same_lock lock s.lock) refl
     where
       go : (o : Option (SleepState B)) → after s.lock past ≡ o → (b : Bool) → same_lock lock s.lock ≡ b
-          → count_in t (wait_list_at line (if b then option_map (sleep_edited rules s.edit) (after lock past) else after lock past))
-          ≡ one_if (is_at lock line (asleep_after (edit_move (sleep_moves rules) s.lock s.edit (option_map (sleep_answer rules s.edit) o)) t (asleep past t)))
+          → count_in t (wait_list_at line (if b then option_map (sleep_edited protocol s.edit) (after lock past) else after lock past))
+          ≡ one_if (is_at lock line
+          (asleep_after (edit_move (sleep_moves protocol) s.lock s.edit (option_map (sleep_answer protocol s.edit) o)) t (asleep past t)))
       go None is false other = agree lock line t
       go None is true same = grind (arith, same_lock_true)
       go (Some state) is true same =
           let one = same_lock_true lock s.lock same in
           rw (ap (λ l. after l past) one ∙ is, one) (edited_agrees s.lock past s state awake (rw is at (agree s.lock)) line t)
       go (Some state) is false other =
-          other_agrees s.lock (λ l. wait_list_of l state) (asleep past) (rw is at (agree s.lock)) (rules.leaves (answer_above rules s.edit state))
-          (rules.caller s.edit) awake.awake awake.small (rules.joins (answer_above rules s.edit state))
+          other_agrees s.lock (λ l. wait_list_of l state) (asleep past) (rw is at (agree s.lock)) (protocol.leaves (answer_above protocol s.edit state))
+          (protocol.caller s.edit) awake.awake awake.small (protocol.joins (answer_above protocol s.edit state))
           lock (λ l. wait_list_at l (after lock past)) other (agree lock) line t
 
   -- after sections whose callers are awake the lists agree with the places
-  pub lists_agree : (past : List (Section E)) → IsLawful (IsAwake rules opening) past → NobodySleeps opening
-      → (lock : LockId) → Agrees lock (λ line. wait_list_at line (block_after (sleep_edited rules) opening lock past))
-      (λ t. asleep_by (section_moves (sleep_rules rules) (sleep_moves rules) opening past) t)
+  pub lists_agree : (past : List (Section E)) → IsLawful (IsAwake protocol opening) past → NoSleepers opening
+      → (lock : LockId) → Agrees lock (λ line. wait_list_at line (block_after (sleep_edited protocol) opening lock past))
+      (λ t. asleep_by (section_moves (sleep_rules protocol) (sleep_moves protocol) opening past) t)
   lists_agree [] lawful nobody lock line t = ap (count_in t) (nobody lock line)
   lists_agree (s ∷ past) lawful nobody lock line t = agree_step past s lawful.0 (lists_agree past lawful.1 nobody) lock line t
 
   -- a thread that a section wakes is asleep
-  pub section_wakes : (past : List (Section E)) (s : Section E) (outcome : Outcome O) (u : Tid) → IsLawful (IsAwake rules opening) past → NobodySleeps opening
-      → option_map (sleep_answer rules s.edit) (block_after (sleep_edited rules) opening s.lock past) ≡ Some outcome → outcome.woke ≡ Some u
-      → is_wait_channel (asleep_by (section_moves (sleep_rules rules) (sleep_moves rules) opening past) u) ≡ true
+  pub section_wakes : (past : List (Section E)) (s : Section E) (outcome : Outcome O) (u : Tid) → IsLawful (IsAwake protocol opening) past → NoSleepers opening
+      → option_map (sleep_answer protocol s.edit) (block_after (sleep_edited protocol) opening s.lock past) ≡ Some outcome → outcome.woke ≡ Some u
+      → is_wait_channel (asleep_by (section_moves (sleep_rules protocol) (sleep_moves protocol) opening past) u) ≡ true
   section_wakes past s outcome u lawful nobody answers wakes = go (after s.lock past) (lists_agree past lawful nobody s.lock) answers
     where
-      go : (o : Option (SleepState B)) → Agrees s.lock (λ line. wait_list_at line o) (asleep past) → option_map (sleep_answer rules s.edit) o ≡ Some outcome
+      go : (o : Option (SleepState B)) → Agrees s.lock (λ line. wait_list_at line o) (asleep past) → option_map (sleep_answer protocol s.edit) o ≡ Some outcome
           → is_wait_channel (asleep past u) ≡ true
       go None agrees none = absurd cc
       go (Some state) agrees some =
-          let told : sleep_woke rules s.edit state ≡ Some u = ap (λ (o : Option (Outcome O)). woke_in o) some ∙ wakes in
-          let stood = woken_asleep s.lock (λ l. wait_list_of l state) (asleep past) agrees (rules.leaves (answer_above rules s.edit state)) u
-          (is_thread_self u _ told) in
+          let abstract_answer : sleep_woke protocol s.edit state ≡ Some u = ap (λ (o : Option (Outcome O)). woke_in o) some ∙ wakes in
+          let stood = woken_asleep s.lock (λ l. wait_list_of l state) (asleep past) agrees (protocol.leaves (answer_above protocol s.edit state)) u
+          (is_thread_self u _ abstract_answer) in
           ap is_wait_channel stood.1

@@ -60,12 +60,12 @@ event_grows ActsFor Acts weakens old new grows = record {
   is = ap (map event_of) grows.is ∙ map-append event_of grows.others old;
 }
 
-module _ {E B O : Type 0} (rules : Rules E B O) (mv : MoveRules E O) (opening : LockId → Option (QueueBlock B)) where
+module _ {E B O : Type 0} (protocol : Rules E B O) (mv : MoveRules E O) (opening : LockId → Option (QueueBlock B)) where
   abbrev beneath : Kernel E B O
-  beneath = kernel rules mv opening
+  beneath = kernel protocol mv opening
 
   abbrev Lawful : List (Section (QueueEdit E)) → Type 0
-  Lawful log = IsLawful (SectionAllowed rules mv opening) log
+  Lawful log = IsLawful (SectionAllowed protocol mv opening) log
 
   -- allowed sections are allowed calls
   pub lawful_events : (log : List (Section (QueueEdit E))) → Lawful log → IsLawful (QueueAllowed beneath) (map event_of log)
@@ -80,13 +80,13 @@ module _ {E B O : Type 0} (rules : Rules E B O) (mv : MoveRules E O) (opening : 
   -- a call that stays allowed is a section that does
   pub stays_section : (old : List (Section (QueueEdit E))) (c : CpuId) (call : QueueCall E)
       → StaysCallable (QueueAllowed beneath) (map event_of old) (event c call)
-      → StaysAllowed (SectionAllowed rules mv opening) old (section c (lock_of call) (queue_edit_of call))
+      → StaysAllowed (SectionAllowed protocol mv opening) old (section c (lock_of call) (queue_edit_of call))
   stays_section old c call stays = grind (arith, map-append, others_events, lawful_events, proper_of, call_at_of)
 
   -- a call that may be polled is a section that may
   pub may_section : (old : List (Section (QueueEdit E))) (under : Option (Section (QueueEdit E))) (c : CpuId) (call : QueueCall E) → IsProperCall under
       → MayQueue (QueueAllowed beneath) (map event_of old) (option_map event_of under) (event c call)
-      → MayPoll (SectionAllowed rules mv opening) old under (section c (lock_of call) (queue_edit_of call))
+      → MayPoll (SectionAllowed protocol mv opening) old under (section c (lock_of call) (queue_edit_of call))
   may_section old None c call proper may = stays_section old c call may
   may_section old (Some s) c call proper may = section_is s c call proper may
 
@@ -94,27 +94,27 @@ module _ {E B O : Type 0} (rules : Rules E B O) (mv : MoveRules E O) (opening : 
 
   module _ (starts : StartsWell opening) where
     edits_above : (e : E) (x : Bool) (found : Option (QueueBlock B)) (above : Option B) → found ≡ option_map block.Above above
-        → (if x then option_map (queue_edited rules.edited (edit.Above e)) found else found)
-        ≡ option_map block.Above (if x then option_map (rules.edited e) above else above)
+        → (if x then option_map (queue_edited protocol.edited (edit.Above e)) found else found)
+        ≡ option_map block.Above (if x then option_map (protocol.edited e) above else above)
     edits_above e x found above is = grind (arith, is)
 
     buffer_step : (b : BufId) (lock : LockId) (x : QueueEdit E) (c : CpuId) (past : List (Section (QueueEdit E))) → IsProper lock x
-        → block_after (queue_edited rules.edited) opening (Buffer b) past
-        ≡ option_map block.Above (block_after rules.edited (inner opening) (Buffer b) (buffer_sections (map event_of past)))
-        → block_after (queue_edited rules.edited) opening (Buffer b) (section c lock x ∷ past)
-        ≡ option_map block.Above (block_after rules.edited (inner opening) (Buffer b) (buffer_sections (map event_of (section c lock x ∷ past))))
+        → block_after (queue_edited protocol.edited) opening (Buffer b) past
+        ≡ option_map block.Above (block_after protocol.edited (inner opening) (Buffer b) (buffer_sections (map event_of past)))
+        → block_after (queue_edited protocol.edited) opening (Buffer b) (section c lock x ∷ past)
+        ≡ option_map block.Above (block_after protocol.edited (inner opening) (Buffer b) (buffer_sections (map event_of (section c lock x ∷ past))))
     buffer_step b lock x c past proper is = grind (arith, edits_above)
 
     -- a buffer's block is that which the sections of the layer above leave
     pub proper_buffer : (b : BufId) (log : List (Section (QueueEdit E))) → AreProper log
-        → block_after (queue_edited rules.edited) opening (Buffer b) log
-        ≡ option_map block.Above (block_after rules.edited (inner opening) (Buffer b) (buffer_sections (map event_of log)))
+        → block_after (queue_edited protocol.edited) opening (Buffer b) log
+        ≡ option_map block.Above (block_after protocol.edited (inner opening) (Buffer b) (buffer_sections (map event_of log)))
     proper_buffer b [] proper = above_is b (opening (Buffer b)) (starts.kinds (Buffer b))
     proper_buffer b (s ∷ past) proper = buffer_step b s.lock s.edit s.cpu past proper.0 (proper_buffer b past proper.1)
 
     pub buffer_block : (b : BufId) (log : List (Section (QueueEdit E))) → Lawful log
-        → block_after (queue_edited rules.edited) opening (Buffer b) log
-        ≡ option_map block.Above (block_after rules.edited (inner opening) (Buffer b) (buffer_sections (map event_of log)))
+        → block_after (queue_edited protocol.edited) opening (Buffer b) log
+        ≡ option_map block.Above (block_after protocol.edited (inner opening) (Buffer b) (buffer_sections (map event_of log)))
     buffer_block b log lawful = proper_buffer b log (lawful_proper log lawful)
 
     opens_queue : (d : CpuId) (found : Option (QueueBlock B)) → StartsAs (Pending d) found → found ≡ with_queue [] found
@@ -132,9 +132,9 @@ module _ {E B O : Type 0} (rules : Rules E B O) (mv : MoveRules E O) (opening : 
     pushed_is t queue known new = λ i. if (lt-ltb t.0 THREADS known i) && not (new i) then queue ++ t ∷ [] else queue
 
     edits_queue : (x : QueueEdit E) (at : Bool) (found opened : Option (QueueBlock B)) (queue next : List Tid) → found ≡ with_queue queue opened
-        → ((homes : _) → queue_edited rules.edited x (block.Queue queue homes) ≡ block.Queue next homes)
-        → ((b : B) → queue_edited rules.edited x (block.Above b) ≡ block.Above b)
-        → (if at then option_map (queue_edited rules.edited x) found else found) ≡ with_queue (if at then next else queue) opened
+        → ((homes : _) → queue_edited protocol.edited x (block.Queue queue homes) ≡ block.Queue next homes)
+        → ((b : B) → queue_edited protocol.edited x (block.Above b) ≡ block.Above b)
+        → (if at then option_map (queue_edited protocol.edited x) found else found) ≡ with_queue (if at then next else queue) opened
     edits_queue x at found opened queue next is edits leaves = grind (arith, is, edits, leaves)
 
     still_pending : (b : BufId) (e : E) (d : CpuId) (queue : List Tid) (out : Option O) → pending_after (edit_move mv (Buffer b) e out) d queue ≡ queue
@@ -143,13 +143,13 @@ module _ {E B O : Type 0} (rules : Rules E B O) (mv : MoveRules E O) (opening : 
     queue_step : (d : CpuId) (lock : LockId) (x : QueueEdit E) (c : CpuId) (past : List (Section (QueueEdit E))) → IsProper lock x
         → MayMove (homes_in opening) (moves_in beneath (map event_of past)) c (call_move beneath (map event_of past) (call_at lock x))
         → AreMoves (homes_in opening) (moves_in beneath (map event_of past))
-        → block_after (queue_edited rules.edited) opening (Pending d) past
+        → block_after (queue_edited protocol.edited) opening (Pending d) past
         ≡ with_queue (pending_by (moves_in beneath (map event_of past)) d) (opening (Pending d))
-        → block_after (queue_edited rules.edited) opening (Pending d) (section c lock x ∷ past)
+        → block_after (queue_edited protocol.edited) opening (Pending d) (section c lock x ∷ past)
         ≡ with_queue (pending_by (moves_in beneath (map event_of (section c lock x ∷ past))) d) (opening (Pending d))
     queue_step d (Pending at) (edit.Push t) c past proper may moving is =
         let queue = pending_by (moves_in beneath (map event_of past)) d in
-        edits_queue (edit.Push t) (same_cpu d at) (block_after (queue_edited rules.edited) opening (Pending d) past) (opening (Pending d)) queue
+        edits_queue (edit.Push t) (same_cpu d at) (block_after (queue_edited protocol.edited) opening (Pending d) past) (opening (Pending d)) queue
         (queue ++ t ∷ []) is
         (λ homes. ap (λ q. block.Queue q homes)
         (pushed_is t queue (push_known (map event_of past) c at t may) (push_new (map event_of past) moving c at d t may)))
@@ -161,41 +161,41 @@ module _ {E B O : Type 0} (rules : Rules E B O) (mv : MoveRules E O) (opening : 
 
     -- a queue's block holds the threads that are pending there according to the moves
     pub proper_queue : (d : CpuId) (log : List (Section (QueueEdit E))) → AreProper log → AreMoves (homes_in opening) (moves_in beneath (map event_of log))
-        → block_after (queue_edited rules.edited) opening (Pending d) log
+        → block_after (queue_edited protocol.edited) opening (Pending d) log
         ≡ with_queue (pending_by (moves_in beneath (map event_of log)) d) (opening (Pending d))
     proper_queue d [] proper moving = opens_queue d (opening (Pending d)) (starts.kinds (Pending d))
     proper_queue d (s ∷ past) proper moving = queue_step d s.lock s.edit s.cpu past proper.0 moving.0 moving.1 (proper_queue d past proper.1 moving.1)
 
-    module _ (wakes : WakesSleepers rules mv) where
+    module _ (wakes : WakesSleepers protocol mv) where
       pub queue_block : (d : CpuId) (log : List (Section (QueueEdit E))) → Lawful log
-          → block_after (queue_edited rules.edited) opening (Pending d) log
+          → block_after (queue_edited protocol.edited) opening (Pending d) log
           ≡ with_queue (pending_by (moves_in beneath (map event_of log)) d) (opening (Pending d))
       queue_block d log lawful = grind (arith, proper_queue, lawful_proper, moves_lawful, lawful_events)
 
       -- What a poll of a section means as a poll of its call.
 
       report_push : (found : Option (QueueBlock B)) (t : Tid) (answer : QueueAnswer O)
-          → option_map (queue_answer rules.answer (edit.Push t)) found ≡ Some answer → Some Done ≡ Some answer
+          → option_map (queue_answer protocol.answer (edit.Push t)) found ≡ Some answer → Some Done ≡ Some answer
       report_push found t answer is = grind (arith, is)
 
       report_taken : (d : CpuId) (opened : Option (QueueBlock B)) → StartsAs (Pending d) opened → (queue : List Tid) (answer : QueueAnswer O)
-          → option_map (queue_answer rules.answer edit.TakeAll) (with_queue queue opened) ≡ Some answer → Some (Taken queue) ≡ Some answer
+          → option_map (queue_answer protocol.answer edit.TakeAll) (with_queue queue opened) ≡ Some answer → Some (Taken queue) ≡ Some answer
       report_taken d opened kind queue answer is = grind (arith, is)
 
-      report_above : (e : E) (above : Option B) → option_map Answer (option_map (rules.answer e) above)
-          ≡ option_map (queue_answer rules.answer (edit.Above e)) (option_map block.Above above)
+      report_above : (e : E) (above : Option B) → option_map Answer (option_map (protocol.answer e) above)
+          ≡ option_map (queue_answer protocol.answer (edit.Above e)) (option_map block.Above above)
       report_above e above = grind arith
 
       -- the result of a section is that of its call
       pub answers_call : (log : List (Section (QueueEdit E))) → Lawful log → (call : QueueCall E) (answer : QueueAnswer O)
-          → option_map (queue_answer rules.answer (queue_edit_of call)) (block_after (queue_edited rules.edited) opening (lock_of call) log) ≡ Some answer
+          → option_map (queue_answer protocol.answer (queue_edit_of call)) (block_after (queue_edited protocol.edited) opening (lock_of call) log) ≡ Some answer
           → answer_of beneath (map event_of log) call ≡ Some answer
       answers_call log lawful call answer is = grind (arith, report_push, report_taken, queue_block, report_above, buffer_block)
 
       -- a poll of a section is a poll of its call
       pub polled_event : (ActsFor Acts : CpuId → Type 0) → ((d : CpuId) → Acts d → ActsFor d)
           → (c : CpuId) (call : QueueCall E) (result : Option (QueueAnswer O)) (old new : List (Section (QueueEdit E))) → Lawful new
-          → PolledAtLock (queue_rules rules mv) opening ActsFor (section c (lock_of call) (queue_edit_of call)) result old new
+          → PolledAtLock (queue_rules protocol mv) opening ActsFor (section c (lock_of call) (queue_edit_of call)) result old new
           → QueuePolled beneath Acts (event c call) result (map event_of old) (map event_of new)
       polled_event ActsFor Acts weakens c call result old new lawful polled = record {
         others = map event_of polled.others;
@@ -214,10 +214,10 @@ module _ {E B O : Type 0} (rules : Rules E B O) (mv : MoveRules E O) (opening : 
           answers : (out : Option (QueueAnswer O))
               → new ≡ (if is_some out then section c (lock_of call) (queue_edit_of call) ∷ (polled.others ++ old) else polled.others ++ old)
               → MatchOption out (Unit {0})
-              (λ answer. option_map (queue_answer rules.answer (queue_edit_of call))
-              (block_after (queue_edited rules.edited) opening (lock_of call) (polled.others ++ old)) ≡ Some answer)
+              (λ answer. option_map (queue_answer protocol.answer (queue_edit_of call))
+              (block_after (queue_edited protocol.edited) opening (lock_of call) (polled.others ++ old)) ≡ Some answer)
               → MatchOption out (Unit {0}) (λ answer. answer_of beneath (map event_of polled.others ++ map event_of old) call ≡ Some answer)
-          answers None is told = tt
-          answers (Some answer) is told =
+          answers None is abstract_answer = tt
+          answers (Some answer) is abstract_answer =
               let before : Lawful (polled.others ++ old) = (subst (λ l. Lawful l) is lawful).1 in
-              subst (λ l. answer_of beneath l call ≡ Some answer) joined (answers_call (polled.others ++ old) before call answer told)
+              subst (λ l. answer_of beneath l call ≡ Some answer) joined (answers_call (polled.others ++ old) before call answer abstract_answer)

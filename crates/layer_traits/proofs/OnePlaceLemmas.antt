@@ -32,7 +32,8 @@ total_one d f n within one none = total_at f n d within (λ k under other. none 
 one_cpu : (d : CpuId) (n : ℕ) → d.0 < n → total (λ k. one_if (same_cpu d (cpu_at k))) n ≡ 1
 one_cpu d n within = total_one d.0 (λ k. one_if (same_cpu d (cpu_at k))) n within (ap one_if (same_cpu_self d)) (λ k other. ap one_if (ne_eqb d.0 k other))
 
-module _ (homes : List CpuId) (n : ℕ) (moves : List Step) (own : ℕ → Threads) (sleeping : Tid → ℕ) (all : AllStand homes n moves own sleeping) (t : Tid) where
+module _ (homes : List CpuId) (n : ℕ) (moves : List Step) (local : ℕ → Threads) (sleeping : Tid → ℕ) (all : AllStand homes n moves local sleeping)
+    (t : Tid) where
   -- how often a thread is on its home CPU, in a CPU's hand or pending there, by case on the
   -- thread's place
   abbrev at_home : Where → ℕ
@@ -70,13 +71,13 @@ module _ (homes : List CpuId) (n : ℕ) (moves : List Step) (own : ℕ → Threa
   placed (Asleep p) is = omega (arith, away (Asleep p) refl, known (ap is_home is), nowhere)
 
 pub one_place : OnePlace
-one_place homes n moves own sleeping all t =
+one_place homes n moves local sleeping all t =
     let w : Where = where_is homes moves t in
-    let mine = total_same (λ k. copies (own k) t) (λ k. one_if (is_cpu (cpu_at k) (home_of homes t) && is_home w)) n
+    let mine = total_same (λ k. copies (local k) t) (λ k. one_if (is_cpu (cpu_at k) (home_of homes t) && is_home w)) n
     (λ k within. (all.stand k within).places t) in
-    let parts = total_sum (λ k. one_if (is_thread t (own k).current) + count_in t (own k).ready) (λ k. count_in t (own k).ended) n in
-    let hands = total_same (λ k. one_if (is_thread t (own k).hand)) (λ k. one_if (is_hand (cpu_at k) w)) n
+    let parts = total_sum (λ k. one_if (is_thread t (local k).current) + count_in t (local k).ready) (λ k. count_in t (local k).ended) n in
+    let hands = total_same (λ k. one_if (is_thread t (local k).hand)) (λ k. one_if (is_hand (cpu_at k) w)) n
     (λ k within. ap one_if ((all.stand k within).hand t)) in
     let queues = total_same (λ k. count_in t (pending_by moves (cpu_at k))) (λ k. one_if (is_pend (cpu_at k) w)) n
     (λ k within. pend_count homes moves all.moves_are (cpu_at k) t) in
-    omega (arith, mine, parts, hands, queues, all.sleep t, placed homes n moves own sleeping all t w refl)
+    omega (arith, mine, parts, hands, queues, all.sleep t, placed homes n moves local sleeping all t w refl)

@@ -3,40 +3,40 @@ use Rattle.std.proofs.{Common.{◌≡◌, Option, Some, None, option_map, refl, 
 use Rattle.{event_log.specs.declared.ids.CpuId.CpuId, layer_traits.specs.Views.{Owned.{IsHeld, IsObserved}, Observed.IsObservedAs}}
 
 -- what is true under one name is true under another
-pub same_shown : {P A : Type 0} (Fits : P → Type 0) (cpu_of : P → CpuId) (IsInside : CpuId → Type 0) (here : P → Option A) (home truth other : Option A)
-    → truth ≡ other → IsObserved Fits cpu_of IsInside here home truth → IsObserved Fits cpu_of IsInside here home other
-same_shown Fits cpu_of IsInside here home truth other same shown = subst (λ o. IsObserved Fits cpu_of IsInside here home o) same shown
+pub same_shown : {P A : Type 0} (Coupled : P → Type 0) (cpu_of : P → CpuId) (IsInside : CpuId → Type 0) (here : P → Option A) (home truth other : Option A)
+    → truth ≡ other → IsObserved Coupled cpu_of IsInside here home truth → IsObserved Coupled cpu_of IsInside here home other
+same_shown Coupled cpu_of IsInside here home truth other same shown = subst (λ o. IsObserved Coupled cpu_of IsInside here home o) same shown
 
 module _ {P Q A : Type 0} (below : Q → P) (FitsP : P → Type 0) (FitsQ : Q → Type 0) (cpu_below : P → CpuId) (cpu_of : Q → CpuId)
     (InsideP InsideQ : CpuId → Type 0) (here : P → Option A) where
   -- a block that a lower part holds is held by the part over it
   held_under : ((q : Q) → FitsQ q → FitsP (below q)) → ((q : Q) → FitsQ q → cpu_below (below q) ≡ cpu_of q) → ((c : CpuId) → InsideP c → InsideQ c)
       → IsHeld FitsP cpu_below InsideP here → IsHeld FitsQ cpu_of InsideQ (λ q. here (below q))
-  held_under fits cpus inside is = record {
+  held_under coupled cpus inside is = record {
     cpu = is.cpu;
     known = is.known;
     inside = inside is.cpu is.inside;
-    has = λ q at fit. is.has (below q) (cpus q fit ∙ at) (fits q fit);
+    has = λ q at fit. is.has (below q) (cpus q fit ∙ at) (coupled q fit);
   }
 
   -- parts over lower parts report what those report
   pub shown_under : (home truth : Option A) → ((q : Q) → FitsQ q → FitsP (below q)) → ((q : Q) → FitsQ q → cpu_below (below q) ≡ cpu_of q)
       → ((c : CpuId) → InsideP c → InsideQ c)
       → IsObserved FitsP cpu_below InsideP here home truth → IsObserved FitsQ cpu_of InsideQ (λ q. here (below q)) home truth
-  shown_under home truth fits cpus inside shown = record {
+  shown_under home truth coupled cpus inside shown = record {
     by_machine = shown.by_machine;
-    by_part = λ q x fit tells. shown.by_part (below q) x (fits q fit) tells;
-    somewhere = λ none. held_under fits cpus inside (shown.somewhere none);
+    by_part = λ q x fit tells. shown.by_part (below q) x (coupled q fit) tells;
+    somewhere = λ none. held_under coupled cpus inside (shown.somewhere none);
   }
 
   -- and of a block that exists
   pub read_under : (home : Option A) (truth : A) → ((q : Q) → FitsQ q → FitsP (below q)) → ((q : Q) → FitsQ q → cpu_below (below q) ≡ cpu_of q)
       → ((c : CpuId) → InsideP c → InsideQ c)
       → IsObservedAs FitsP cpu_below InsideP here home truth → IsObservedAs FitsQ cpu_of InsideQ (λ q. here (below q)) home truth
-  read_under home truth fits cpus inside told = record {
-    by_machine = told.by_machine;
-    by_part = λ q x fit tells. told.by_part (below q) x (fits q fit) tells;
-    somewhere = λ none. held_under fits cpus inside (told.somewhere none);
+  read_under home truth coupled cpus inside abstract_answer = record {
+    by_machine = abstract_answer.by_machine;
+    by_part = λ q x fit tells. abstract_answer.by_part (below q) x (coupled q fit) tells;
+    somewhere = λ none. held_under coupled cpus inside (abstract_answer.somewhere none);
   }
 
 -- parts over lower parts, each of the CPU of its lower part, which fits if the part fits; and which
@@ -47,12 +47,12 @@ pub record PartsOn (P Q : Type 0) : Type 1 where
   pub FitsQ : Q → Type 0
   pub cpu_below : P → CpuId
   pub MayHold : CpuId → Type 0
-  pub fits : (q : Q) → FitsQ q → FitsP (below q)
+  pub coupled : (q : Q) → FitsQ q → FitsP (below q)
 
 abbrev pub parts_on : {P Q : Type 0} (below : Q → P) (FitsP : P → Type 0) (FitsQ : Q → Type 0) → (P → CpuId) → (CpuId → Type 0)
     → ((q : Q) → FitsQ q → FitsP (below q)) → PartsOn P Q
-parts_on below FitsP FitsQ cpu_below MayHold fits =
-    record { below = below; FitsP = FitsP; FitsQ = FitsQ; cpu_below = cpu_below; MayHold = MayHold; fits = fits }
+parts_on below FitsP FitsQ cpu_below MayHold coupled =
+    record { below = below; FitsP = FitsP; FitsQ = FitsQ; cpu_below = cpu_below; MayHold = MayHold; coupled = coupled }
 
 -- they report what the lower ones report
 pub shown_on : {P Q A : Type 0} (parts : PartsOn P Q) (tells : P → Option A) (home truth : Option A)
@@ -60,7 +60,7 @@ pub shown_on : {P Q A : Type 0} (parts : PartsOn P Q) (tells : P → Option A) (
     → IsObserved parts.FitsQ (λ q. parts.cpu_below (parts.below q)) parts.MayHold (λ q. tells (parts.below q)) home truth
 shown_on parts tells home truth shown =
     shown_under parts.below parts.FitsP parts.FitsQ parts.cpu_below (λ q. parts.cpu_below (parts.below q)) parts.MayHold parts.MayHold
-    tells home truth parts.fits (λ q fit. refl) (λ c held. held) shown
+    tells home truth parts.coupled (λ q fit. refl) (λ c held. held) shown
 
 viewed_some : {A B : Type 0} (view : A → B) (truth : Option A) (o : Option A) (y : B) → ((x : A) → o ≡ Some x → truth ≡ Some x) → option_map view o ≡ Some y
     → option_map view truth ≡ Some y
@@ -70,29 +70,29 @@ viewed_none : {A B : Type 0} (view : A → B) (o : Option A) → option_map view
 viewed_none view o none = grind (arith, none)
 
 -- what is reported of a block is reported of its view
-pub viewed_shown : {P A B : Type 0} (view : A → B) (Fits : P → Type 0) (cpu_of : P → CpuId) (IsInside : CpuId → Type 0) (here : P → Option A)
-    (home truth : Option A) (seen : Option B) → seen ≡ option_map view truth → IsObserved Fits cpu_of IsInside here home truth
-    → IsObserved Fits cpu_of IsInside (λ p. option_map view (here p)) (option_map view home) seen
-viewed_shown view Fits cpu_of IsInside here home truth seen is shown = record {
+pub viewed_shown : {P A B : Type 0} (view : A → B) (Coupled : P → Type 0) (cpu_of : P → CpuId) (IsInside : CpuId → Type 0) (here : P → Option A)
+    (home truth : Option A) (history : Option B) → history ≡ option_map view truth → IsObserved Coupled cpu_of IsInside here home truth
+    → IsObserved Coupled cpu_of IsInside (λ p. option_map view (here p)) (option_map view home) history
+viewed_shown view Coupled cpu_of IsInside here home truth history is shown = record {
   by_machine = λ y tells. is ∙ viewed_some view truth home y shown.by_machine tells;
-  by_part = λ p y fits tells. is ∙ viewed_some view truth (here p) y (λ x told. shown.by_part p x fits told) tells;
+  by_part = λ p y coupled tells. is ∙ viewed_some view truth (here p) y (λ x abstract_answer. shown.by_part p x coupled abstract_answer) tells;
   somewhere = λ none. held (shown.somewhere (viewed_none view home none));
 }
   where
-    held : IsHeld Fits cpu_of IsInside here → IsHeld Fits cpu_of IsInside (λ p. option_map view (here p))
+    held : IsHeld Coupled cpu_of IsInside here → IsHeld Coupled cpu_of IsInside (λ p. option_map view (here p))
     held at = record {
       cpu = at.cpu;
       known = at.known;
       inside = at.inside;
-      has = λ p same fits none. at.has p same fits (viewed_none view (here p) none);
+      has = λ p same coupled none. at.has p same coupled (viewed_none view (here p) none);
     }
 
 -- what is shown of a block that exists is true of it
-pub observed_as : {P A : Type 0} (Fits : P → Type 0) (cpu_of : P → CpuId) (IsInside : CpuId → Type 0) (here : P → Option A) (home truth : Option A) (x : A)
-    → truth ≡ Some x → IsObserved Fits cpu_of IsInside here home truth → IsObservedAs Fits cpu_of IsInside here home x
-observed_as Fits cpu_of IsInside here home truth x is shown = record {
+pub observed_as : {P A : Type 0} (Coupled : P → Type 0) (cpu_of : P → CpuId) (IsInside : CpuId → Type 0) (here : P → Option A) (home truth : Option A) (x : A)
+    → truth ≡ Some x → IsObserved Coupled cpu_of IsInside here home truth → IsObservedAs Coupled cpu_of IsInside here home x
+observed_as Coupled cpu_of IsInside here home truth x is shown = record {
   by_machine = λ y tells. same_Some y x (sym (shown.by_machine y tells) ∙ is);
-  by_part = λ p y fits tells. same_Some y x (sym (shown.by_part p y fits tells) ∙ is);
+  by_part = λ p y coupled tells. same_Some y x (sym (shown.by_part p y coupled tells) ∙ is);
   somewhere = shown.somewhere;
 }
 

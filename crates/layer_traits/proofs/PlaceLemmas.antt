@@ -59,23 +59,25 @@ is_home_true w is = grind arith
 
 -- An edit: its caller may fall asleep, and then a sleeper may be woken.
 
-module _ (homes : List CpuId) (c : CpuId) (own : Threads) where
+module _ (homes : List CpuId) (c : CpuId) (local : Threads) where
   -- how often the CPU has a thread on its home CPU after the caller's sleep
-  slept_copies : (lock : LockId) (caller t : Tid) (w : Where) (slept : Option WaitList) → own.current ≡ Some caller
-      → (same_tid caller t ≡ true → (count_in t own.ready ≡ 0) × (count_in t own.ended ≡ 0)) → copies own t ≡ one_if (is_cpu c (home_of homes t) && is_home w)
-      → copies (own_slept slept own) t ≡ one_if (is_cpu c (home_of homes t) && is_home (if same_tid caller t then where_slept lock slept w else w))
+  slept_copies : (lock : LockId) (caller t : Tid) (w : Where) (slept : Option WaitList) → local.current ≡ Some caller
+      → (same_tid caller t ≡ true → (count_in t local.ready ≡ 0) × (count_in t local.ended ≡ 0))
+      → copies local t ≡ one_if (is_cpu c (home_of homes t) && is_home w)
+      → copies (own_slept slept local) t ≡ one_if (is_cpu c (home_of homes t) && is_home (if same_tid caller t then where_slept lock slept w else w))
   slept_copies lock caller t w slept runs once before = grind arith
 
   -- and after the wake-up
   woken_copies : (t : Tid) (w : Where) (woke : Option Tid) → (is_thread t woke ≡ true → is_home w ≡ false)
-      → copies own t ≡ one_if (is_cpu c (home_of homes t) && is_home w)
-      → copies (own_woken homes c woke own) t ≡ one_if (is_cpu c (home_of homes t) && is_home (if is_thread t woke then where_woken c (home_of homes t) else w))
+      → copies local t ≡ one_if (is_cpu c (home_of homes t) && is_home w)
+      → copies (own_woken homes c woke local) t
+      ≡ one_if (is_cpu c (home_of homes t) && is_home (if is_thread t woke then where_woken c (home_of homes t) else w))
   woken_copies t w None away before = before
-  woken_copies t w (Some u) away before = grind (arith, count_append t own.ready (u ∷ []), same_tid_true u t)
+  woken_copies t w (Some u) away before = grind (arith, count_append t local.ready (u ∷ []), same_tid_true u t)
 
   -- the hand has the woken thread, if its home is another CPU
-  moved_hand : (lock : LockId) (caller t : Tid) (w : Where) (slept : Option WaitList) (woke : Option Tid) → own.hand ≡ None → is_hand c w ≡ false
-      → is_thread t (own_woken homes c woke (own_slept slept own)).hand
+  moved_hand : (lock : LockId) (caller t : Tid) (w : Where) (slept : Option WaitList) (woke : Option Tid) → local.hand ≡ None → is_hand c w ≡ false
+      → is_thread t (own_woken homes c woke (own_slept slept local)).hand
       ≡ is_hand c (if is_thread t woke then where_woken c (home_of homes t) else (if same_tid caller t then where_slept lock slept w else w))
   moved_hand lock caller t w slept woke empty before = grind (arith, same_tid_true)
 
@@ -176,9 +178,9 @@ module _ (homes : List CpuId) where
       (here.0 ∙ before.0, here.1 ∙ before.1)
 
   -- a CPU's private state therefore agrees with the places under environment steps
-  pub stands_others : (d : CpuId) (others old : List Step) (own : Threads) → AreOthers cpu_of_step d others → AreMoves homes (others ++ old)
-      → Stands homes d old own → Stands homes d (others ++ old) own
-  stands_others d others old own foreign legal stands = record {
+  pub stands_others : (d : CpuId) (others old : List Step) (local : Threads) → AreOthers cpu_of_step d others → AreMoves homes (others ++ old)
+      → Stands homes d old local → Stands homes d (others ++ old) local
+  stands_others d others old local foreign legal stands = record {
     places = λ t. stands.places t ∙ sym (ap one_if (others_keep d others old t foreign legal).1);
     hand = λ t. stands.hand t ∙ sym (others_keep d others old t foreign legal).0;
   }
@@ -205,66 +207,66 @@ module _ (homes : List CpuId) where
       is_pend_true d (where_is homes moves t) (grind (arith, counts, some))
 
   -- A CPU's private state that agrees with the places.
-  module _ (c : CpuId) (moves : List Step) (own : Threads) (legal : AreMoves homes moves) (stands : Stands homes c moves own) where
+  module _ (c : CpuId) (moves : List Step) (local : Threads) (legal : AreMoves homes moves) (stands : Stands homes c moves local) where
     -- a thread that this CPU has among its own once is on its home CPU
     here : (t : Tid) → is_here homes c moves t ≡ true → (home_of homes t ≡ Some c) × (where_is homes moves t ≡ Home)
     here t is = grind (arith, and_parts, is_cpu_true, is_home_true)
 
-    pub current_at : (t : Tid) → own.current ≡ Some t
-        → (home_of homes t ≡ Some c) × (where_is homes moves t ≡ Home) × (count_in t own.ready ≡ 0) × (count_in t own.ended ≡ 0)
+    pub current_at : (t : Tid) → local.current ≡ Some t
+        → (home_of homes t ≡ Some c) × (where_is homes moves t ≡ Home) × (count_in t local.ready ≡ 0) × (count_in t local.ended ≡ 0)
     current_at t is = grind (arith, is_thread_self, here)
 
-    pub hand_at : (t : Tid) → own.hand ≡ Some t → where_is homes moves t ≡ Hand c
-    hand_at t is = is_hand_true c (where_is homes moves t) (sym (stands.hand t) ∙ is_thread_self t own.hand is)
+    pub hand_at : (t : Tid) → local.hand ≡ Some t → where_is homes moves t ≡ Hand c
+    hand_at t is = is_hand_true c (where_is homes moves t) (sym (stands.hand t) ∙ is_thread_self t local.hand is)
 
-    pub hand_free : own.hand ≡ None → (t : Tid) → where_is homes moves t ≢ Hand c
+    pub hand_free : local.hand ≡ None → (t : Tid) → where_is homes moves t ≢ Hand c
     hand_free empty t is = grind (arith, stands.hand t, same_cpu_self)
 
-    pub away_from : (t : Tid) → is_home (where_is homes moves t) ≡ false → count_in t own.ready ≡ 0
+    pub away_from : (t : Tid) → is_home (where_is homes moves t) ≡ false → count_in t local.ready ≡ 0
     away_from t away = grind (arith, stands.places t)
 
-    pub pending_at : (t : Tid) → is_in t (pending_by moves c) ≡ true → (home_of homes t ≡ Some c) × (is_in t own.ready ≡ false)
+    pub pending_at : (t : Tid) → is_in t (pending_by moves c) ≡ true → (home_of homes t ≡ Some c) × (is_in t local.ready ≡ false)
     pending_at t is = grind (arith, pend_where, pend_home, not_counted, away_from)
 
-    pub current_new : (t : Tid) → own.current ≡ Some t → is_in t (own.ready ++ pending_by moves c) ≡ false
+    pub current_new : (t : Tid) → local.current ≡ Some t → is_in t (local.ready ++ pending_by moves c) ≡ false
     current_new t is = grind (arith, current_at, pend_count, not_counted, count_append)
 
-    pub stands_taken : Stands homes c (step_with c (Took c) ∷ moves) (took_pending (pending_by moves c) own)
+    pub stands_taken : Stands homes c (step_with c (Took c) ∷ moves) (took_pending (pending_by moves c) local)
     stands_taken = record {
       places = λ t. copied t ∙ taken_here c (home_of homes t) (where_is homes moves t) (λ d. pend_home moves t d legal);
       hand = λ t. stands.hand t ∙ taken_hand c c (where_is homes moves t);
     }
       where
-        copied : (t : Tid) → copies (took_pending (pending_by moves c) own) t ≡ one_if (is_here homes c moves t) + one_if (is_pend c (where_is homes moves t))
+        copied : (t : Tid) → copies (took_pending (pending_by moves c) local) t ≡ one_if (is_here homes c moves t) + one_if (is_pend c (where_is homes moves t))
         copied t = grind (arith, count_append, count_as_list, pend_count)
 
-    pub stands_pushed : (d : CpuId) (u : Tid) → own.hand ≡ Some u → Stands homes c (step_with c (Pushed d u) ∷ moves) (passed_on own)
+    pub stands_pushed : (d : CpuId) (u : Tid) → local.hand ≡ Some u → Stands homes c (step_with c (Pushed d u) ∷ moves) (passed_on local)
     stands_pushed d u held = record {
       places = λ t. grind (arith, stands.places t, hand_at u held, same_tid_true);
       hand = λ t. grind (arith, stands.hand t, held);
     }
 
-    pub stands_switched : own.current ≡ None → Stands homes c moves (switched own)
+    pub stands_switched : local.current ≡ None → Stands homes c moves (switched local)
     stands_switched idle = record {
-      places = λ t. omega (arith, count_front t own.ready, ap (λ o. one_if (is_thread t o)) idle, stands.places t);
+      places = λ t. omega (arith, count_front t local.ready, ap (λ o. one_if (is_thread t o)) idle, stands.places t);
       hand = stands.hand;
     }
 
-    pub stands_finished : Stands homes c moves (finished own)
+    pub stands_finished : Stands homes c moves (finished local)
     stands_finished = record {
-      places = λ t. omega (arith, count_append t own.ended (as_list own.current), count_as_list t own.current, stands.places t);
+      places = λ t. omega (arith, count_append t local.ended (as_list local.current), count_as_list t local.current, stands.places t);
       hand = stands.hand;
     }
 
     pub stands_moved : (lock : LockId) (caller : Tid) (slept : Option WaitList) (woke : Option Tid) → MayMove homes moves c (Moved lock caller slept woke)
-        → own.current ≡ Some caller → own.hand ≡ None
-        → Stands homes c (step_with c (Moved lock caller slept woke) ∷ moves) (own_woken homes c woke (own_slept slept own))
+        → local.current ≡ Some caller → local.hand ≡ None
+        → Stands homes c (step_with c (Moved lock caller slept woke) ∷ moves) (own_woken homes c woke (own_slept slept local))
     stands_moved lock caller slept woke may runs empty = record {
-      places = λ t. woken_copies homes c (own_slept slept own) t (if same_tid caller t then where_slept lock slept (where_is homes moves t)
+      places = λ t. woken_copies homes c (own_slept slept local) t (if same_tid caller t then where_slept lock slept (where_is homes moves t)
           else where_is homes moves t) woke (sleeper_away (where_is homes moves) lock caller t slept woke may.0.at_home may.1)
-          (slept_copies homes c own lock caller t (where_is homes moves t) slept runs
+          (slept_copies homes c local lock caller t (where_is homes moves t) slept runs
           (λ same. let at = current_at t (runs ∙ ap Some (same_tid_true caller t same)) in (at.2, at.3)) (stands.places t));
-      hand = λ t. moved_hand homes c own lock caller t (where_is homes moves t) slept woke empty (sym (stands.hand t) ∙ ap (is_thread t) empty);
+      hand = λ t. moved_hand homes c local lock caller t (where_is homes moves t) slept woke empty (sym (stands.hand t) ∙ ap (is_thread t) empty);
     }
 
 -- at boot each thread is ready with its home
@@ -288,5 +290,5 @@ stands_boot homes c = record {
 pub home_there : (c : CpuId) (o : Option CpuId) → IsSome o → o ≡ Some (or_else c o)
 home_there c o there = grind arith
 
-pub woken_current : (homes : List CpuId) (c : CpuId) (woke : Option Tid) (own : Threads) → (own_woken homes c woke own).current ≡ own.current
-woken_current homes c woke own = grind arith
+pub woken_current : (homes : List CpuId) (c : CpuId) (woke : Option Tid) (local : Threads) → (own_woken homes c woke local).current ≡ local.current
+woken_current homes c woke local = grind arith

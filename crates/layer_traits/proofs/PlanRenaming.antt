@@ -12,14 +12,15 @@ pub use Rattle.std.proofs.lemmas.List.{map-append}
 pub record StandsOn {M N A B Q R : Type 0} (low : Table M A Q) (high : Table N B R) : Type 0 where
   pub name : M → N
   pub view : A → B
-  pub told : Q → R
+  pub abstract_answer : Q → R
   pub edits : (m : M) (block : A) → view (low.edited m block) ≡ high.edited (name m) (view block)
-  pub answers : (m : M) (block : A) → told (low.answer m block) ≡ high.answer (name m) (view block)
+  pub answers : (m : M) (block : A) → abstract_answer (low.answer m block) ≡ high.answer (name m) (view block)
 
 module _ {M N A B Q R : Type 0} (low : Table M A Q) (high : Table N B R) (stands : StandsOn low high) (opening : LockId → Option A) where
-  open stands use {name, view, told, edits, answers}
+  open stands use {name, view, abstract_answer, edits, answers}
 
-  viewed_answer : (m : M) (block : Option A) → option_map told (option_map (low.answer m) block) ≡ option_map (high.answer (name m)) (option_map view block)
+  viewed_answer : (m : M) (block : Option A)
+      → option_map abstract_answer (option_map (low.answer m) block) ≡ option_map (high.answer (name m)) (option_map view block)
   viewed_answer m block = grind (arith, answers)
 
   -- the layer's block is its view of the lower layer's block
@@ -29,12 +30,13 @@ module _ {M N A B Q R : Type 0} (low : Table M A Q) (high : Table N B R) (stands
   block_viewed lock [] = refl
   block_viewed lock (s ∷ past) = grind (arith, block_viewed lock past, edits s.edit)
 
-  at_give_mapped : (p : Phase) (answer : Option Q) → option_map told (at_give p answer) ≡ at_give p (option_map told answer)
+  at_give_mapped : (p : Phase) (answer : Option Q) → option_map abstract_answer (at_give p answer) ≡ at_give p (option_map abstract_answer answer)
   at_give_mapped p answer = grind arith
 
   -- and its reply is what the lower reply means
   pub reply_viewed : (cpu : CpuId) (lock : LockId) (m : M) (past : List (Action M))
-      → option_map told (reply low opening cpu lock m past) ≡ reply high (λ l. option_map view (opening l)) cpu lock (name m) (map (renamed name) past)
+      → option_map abstract_answer (reply low opening cpu lock m past)
+      ≡ reply high (λ l. option_map view (opening l)) cpu lock (name m) (map (renamed name) past)
   reply_viewed cpu lock m past =
       let block : Option A = block_after low.edited opening lock (sections_in past) in
       let answer : List (Section N) → Option R

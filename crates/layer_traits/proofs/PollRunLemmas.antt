@@ -42,29 +42,29 @@ room_on k a b c first second = omega arith
 
 -- polls of the lock leave what the part reports of its CPU
 pub looks_keep : {P L M : Type 0} (I : Ghosts P L M) (plan : ℕ → List CpuId → CpuId → Tid → Call → Buffering → BufferPlan Reply) {p : P} {m : M} {j k : ℕ}
-    {q : P} {n : M} → LookedOnAt I plan p m j k q n → (I.own q ≡ I.own p) × (I.is_inside q ≡ I.is_inside p)
+    {q : P} {n : M} → LookedOnAt I plan p m j k q n → (I.local q ≡ I.local p) × (I.is_inside q ≡ I.is_inside p)
 looks_keep I plan LookedOn.none = (refl, refl)
-looks_keep I plan (LookedOn.more looked last) = let so_far = looks_keep I plan looked in (last.own ∙ so_far.0, last.inside ∙ so_far.1)
+looks_keep I plan (LookedOn.more looked last) = let so_far = looks_keep I plan looked in (last.local ∙ so_far.0, last.inside ∙ so_far.1)
 
 module _ {P L M : Type 0} (I : Ghosts P L M) (plan : ℕ → List CpuId → CpuId → Tid → Call → Buffering → BufferPlan Reply) (t : Tid) (call : Call) where
   -- what so many consecutive actions keep
   pub record Kept (p : P) (m : M) (actions : ℕ) (q : P) (n : M) : Type 0 where
-    pub fits : I.Fits q n
+    pub coupled : I.Coupled q n
     pub cpu : I.cpu_of q ≡ I.cpu_of p
     pub opening : I.opening n ≡ I.opening m
-    pub site : I.site n ≡ I.site m
+    pub machine_id : I.machine_id n ≡ I.machine_id m
     pub room : I.room m ≤ I.room n + actions
     pub acts : (c : CpuId) → I.ActsFor m c → I.ActsFor n c
-    pub others : (r : P) → I.cpu_of r ≢ I.cpu_of p → I.Fits r m → I.Fits r n
+    pub others : (r : P) → I.cpu_of r ≢ I.cpu_of p → I.Coupled r m → I.Coupled r n
     pub holders : (c : CpuId) → c ≢ I.cpu_of p → I.ActsFor m c → I.MayHold n c → I.MayHold m c
 
-  kept_by : (p q : P) (m n : M) → Framed I.Fits I.cpu_of I.opening I.site I.room I.ActsFor I.MayHold p q m n
+  kept_by : (p q : P) (m n : M) → Framed I.Coupled I.cpu_of I.opening I.machine_id I.room I.ActsFor I.MayHold p q m n
       → Kept p m 1 q n
   kept_by p q m n framed = record {
-    fits = framed.fits;
+    coupled = framed.coupled;
     cpu = framed.cpu;
     opening = framed.stays.opening;
-    site = framed.stays.site;
+    machine_id = framed.stays.machine_id;
     room = framed.stays.room;
     acts = framed.stays.acts;
     others = framed.others;
@@ -73,20 +73,21 @@ module _ {P L M : Type 0} (I : Ghosts P L M) (plan : ℕ → List CpuId → CpuI
 
   kept_on : {p q r : P} {m n o : M} (k : ℕ) → Kept p m k q n → Kept q n 1 r o → Kept p m (k + 1) r o
   kept_on {m = m} {n = n} {o = o} k first second = record {
-    fits = second.fits;
+    coupled = second.coupled;
     cpu = second.cpu ∙ first.cpu;
     opening = second.opening ∙ first.opening;
-    site = second.site ∙ first.site;
+    machine_id = second.machine_id ∙ first.machine_id;
     room = room_on k (I.room m) (I.room n) (I.room o) first.room second.room;
     acts = λ c acts. second.acts c (first.acts c acts);
-    others = λ s other fits. second.others s (λ same. other (same ∙ first.cpu)) (first.others s other fits);
+    others = λ s other coupled. second.others s (λ same. other (same ∙ first.cpu)) (first.others s other coupled);
     holders = λ c other acts held. first.holders c other acts (second.holders c (λ same. other (same ∙ first.cpu)) (first.acts c acts) held);
   }
 
   -- consecutive actions keep the frame of each of them
-  pub run_kept : (p : P) (m : M) (actions : ℕ) (q : P) (n : M) (told : Option ReplyKind) → PolledOnAt I plan t call p m actions q n told → Kept p m actions q n
-  run_kept p m _ q n told (once polled) = kept_by p q m n polled.framed
-  run_kept p m _ r o told (again {k = k} {q = q} {n = n} run quiet polled) =
+  pub run_kept : (p : P) (m : M) (actions : ℕ) (q : P) (n : M) (abstract_answer : Option ReplyKind) → PolledOnAt I plan t call p m actions q n abstract_answer
+      → Kept p m actions q n
+  run_kept p m _ q n abstract_answer (once polled) = kept_by p q m n polled.framed
+  run_kept p m _ r o abstract_answer (again {k = k} {q = q} {n = n} run quiet polled) =
       kept_on k (run_kept p m k q n None run) (kept_by q r n o polled.framed)
   run_kept p m _ r o _ (looks {k = k} {q = q} {n = n} run quiet looked) =
       kept_on k (run_kept p m k q n None run) (kept_by q r n o looked.framed)
@@ -94,35 +95,35 @@ module _ {P L M : Type 0} (I : Ghosts P L M) (plan : ℕ → List CpuId → CpuI
   -- the call is pending
   pub record IsOn (q : P) : Type 0 where
     pub under_way : I.under_way q ≡ Some (Calling t)
-    pub begun : begun_of (call_state_of (I.own q).call_states t) ≡ Some call
+    pub begun : begun_of (call_state_of (I.local q).call_states t) ≡ Some call
 
   -- a poll with no reply found its buffer
   pub there : (p q : P) (m n : M) → PolledAt I plan t call p m q n None → (buffer_of call).0 < length (caps_in (I.opening m))
   there p q m n polled = lt_of_not-le (λ none. absurd (let no = (polled.nothing none).answers in cc))
 
-  on_by : (p q : P) (m n : M) → PolledAt I plan t call p m q n None → (threads_in (I.own q)).current ≡ Some t → IsOn q
+  on_by : (p q : P) (m n : M) → PolledAt I plan t call p m q n None → (threads_in (I.local q)).current ≡ Some t → IsOn q
   on_by p q m n polled runs = record {
-    under_way = still_called t (threads_in (I.own q)).current (I.under_way q) runs (polled.under_way (there p q m n polled));
+    under_way = still_called t (threads_in (I.local q)).current (I.under_way q) runs (polled.under_way (there p q m n polled));
     begun = (polled.called (there p q m n polled)).answers;
   }
 
   -- after actions with no reply, after which the thread runs, its call is pending
-  pub is_on : (p : P) (m : M) (actions : ℕ) (q : P) (n : M) → PolledOnAt I plan t call p m actions q n None → (threads_in (I.own q)).current ≡ Some t → IsOn q
+  pub is_on : (p : P) (m : M) (actions : ℕ) (q : P) (n : M) → PolledOnAt I plan t call p m actions q n None → (threads_in (I.local q)).current ≡ Some t → IsOn q
   is_on p m _ q n (once polled) runs = on_by p q m n polled runs
   is_on p m _ r o (again {q = q} {n = n} run quiet polled) runs = on_by q r n o polled runs
   is_on p m _ r o (looks {k = k} {q = q} {n = n} run quiet looked) runs =
       let on = is_on p m k q n run quiet.runs in
       record {
         under_way = looked.under_way ∙ on.under_way;
-        begun = ap (λ (o : Buffering). begun_of (call_state_of o.call_states t)) looked.own ∙ on.begun;
+        begun = ap (λ (o : Buffering). begun_of (call_state_of o.call_states t)) looked.local ∙ on.begun;
       }
 
   -- what a poll of the call requires of its part and machine
   pub record MayPoll (p : P) (m : M) : Type 0 where
-    pub fits : I.Fits p m
-    pub runs : (threads_in (I.own p)).current ≡ Some t
-    pub hand : I.under_way p ≡ None → (threads_in (I.own p)).hand ≡ None
-    pub same : MayPollCall (call_state_of (I.own p).call_states t) call
+    pub coupled : I.Coupled p m
+    pub runs : (threads_in (I.local p)).current ≡ Some t
+    pub hand : I.under_way p ≡ None → (threads_in (I.local p)).hand ≡ None
+    pub same : MayPollCall (call_state_of (I.local p).call_states t) call
     pub goes_on : MayGoOn (I.under_way p) (Calling t)
 
   -- so far nothing was done, or the call had no end and no effect
@@ -136,10 +137,10 @@ module _ {P L M : Type 0} (I : Ghosts P L M) (plan : ℕ → List CpuId → CpuI
   may_poll p m _ q n (quiet_yet {k = k} some run quiet) may =
       let on = is_on p m k q n run quiet.runs in
       record {
-        fits = (run_kept p m k q n None run).fits;
+        coupled = (run_kept p m k q n None run).coupled;
         runs = quiet.runs;
         hand = λ none. absurd (cc (none, on.under_way));
-        same = may_go_on (call_state_of (I.own q).call_states t) call on.begun;
+        same = may_go_on (call_state_of (I.local q).call_states t) call on.begun;
         goes_on = subst (λ (u : Option UnderWay). MayGoOn u (Calling t)) (sym on.under_way) refl;
       }
 
@@ -149,11 +150,11 @@ module _ {P L M : Type 0} (I : Ghosts P L M) (plan : ℕ → List CpuId → CpuI
   run_left p m _ q n (quiet_yet {k = k} some run quiet) = let k = run_kept p m k q n None run in (k.room, k.opening)
 
   -- one more poll
-  pub one_more : (p : P) (m : M) (actions : ℕ) (q : P) (n : M) (r : P) (o : M) (told : Option ReplyKind) → SoFar p m actions q n
-      → PolledAt I plan t call q n r o told
-      → PolledOnAt I plan t call p m (actions + 1) r o told
-  one_more p m _ _ _ r o told nothing_yet polled = once polled
-  one_more p m _ q n r o told (quiet_yet some run quiet) polled = again run quiet polled
+  pub one_more : (p : P) (m : M) (actions : ℕ) (q : P) (n : M) (r : P) (o : M) (abstract_answer : Option ReplyKind) → SoFar p m actions q n
+      → PolledAt I plan t call q n r o abstract_answer
+      → PolledOnAt I plan t call p m (actions + 1) r o abstract_answer
+  one_more p m _ _ _ r o abstract_answer nothing_yet polled = once polled
+  one_more p m _ q n r o abstract_answer (quiet_yet some run quiet) polled = again run quiet polled
 
   -- polls of the lock after such actions leave the call without an end and an effect, and are among
   -- the actions
@@ -173,24 +174,24 @@ module _ {P L M : Type 0} (I : Ghosts P L M) (plan : ℕ → List CpuId → CpuI
 
   -- the effect with which the next poll continues is that of the call when the actions began
   pub same_effect : (p : P) (m : M) (actions : ℕ) (q : P) (n : M) → SoFar p m actions q n
-      → (going (call_state_of (I.own q).call_states t) call).effect ≡ (going (call_state_of (I.own p).call_states t) call).effect
+      → (going (call_state_of (I.local q).call_states t) call).effect ≡ (going (call_state_of (I.local p).call_states t) call).effect
   same_effect p m _ _ _ nothing_yet = refl
   same_effect p m _ q n (quiet_yet {k = k} some run quiet) =
-      ap (λ (x : CallState). x.effect) (going_begun (call_state_of (I.own q).call_states t) call (is_on p m k q n run quiet.runs).begun) ∙ quiet.effect
+      ap (λ (x : CallState). x.effect) (going_begun (call_state_of (I.local q).call_states t) call (is_on p m k q n run quiet.runs).begun) ∙ quiet.effect
 
   -- a poll after which the thread runs leaves the call without an end and a further effect, if the
   -- call has an effect exactly if it had it at the start
   pub quiet_after_poll : (p : P) (m : M) (actions : ℕ) (q : P) (n : M) (r : P) (o : M) → SoFar p m actions q n → PolledAt I plan t call q n r o None
-      → (threads_in (I.own r)).current ≢ None
-      → is_some (call_state_of (I.own r).call_states t).effect ≡ is_some (going (call_state_of (I.own p).call_states t) call).effect
+      → (threads_in (I.local r)).current ≢ None
+      → is_some (call_state_of (I.local r).call_states t).effect ≡ is_some (going (call_state_of (I.local p).call_states t) call).effect
       → IsBegunAt I plan t call p r
   quiet_after_poll p m actions q n r o so_far polled runs same =
       let found = there q r n o polled in
       let called = polled.called found in
       let before = same_effect p m actions q n so_far in
       record {
-        runs = still_runs t (threads_in (I.own r)).current ((polled.runs found).current) runs;
-        effect = effect_kept call (going (call_state_of (I.own q).call_states t) call).effect
-            (call_state_of (I.own r).call_states t).effect called.mine called.fresh called.stays
+        runs = still_runs t (threads_in (I.local r)).current ((polled.runs found).current) runs;
+        effect = effect_kept call (going (call_state_of (I.local q).call_states t) call).effect
+            (call_state_of (I.local r).call_states t).effect called.mine called.fresh called.stays
             (same ∙ ap (λ (f : Option Effect). is_some f) (sym before)) ∙ before;
       }

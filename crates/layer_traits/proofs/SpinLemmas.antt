@@ -2,9 +2,9 @@
 -- other names.
 use Rattle.std.proofs.Common.{◌≡◌, ℕ, zero, suc, ◌<◌, ◌%◌, false, List, ◌∷◌, ◌++◌, map, replicate, refl, ap, ◌∙◌, arith}
 use Rattle.event_log.specs.declared.{ids.{CpuId.CpuId, LockId.{LockId, TheVariants.Pending}, TheConstants.CPUS}, events.Event.{Event, TheVariants.Look}}
-use Rattle.event_log.specs.{declared.grants.GrantEvent.{GrantEvent, TheVariants.Peek}, Actions.{Action, Try, Waits, phase, renamed, spot_of}, Grants.grant_word}
-use Rattle.{event_log.{specs.Sections.sections_in, proofs.{Same.same_cpu_true, Renaming.phase_renamed}}, layer_traits.specs.Protocols.AsGrants.as_grants}
-use Rattle.layer_traits.specs.Polling.Spins.{Misses}
+use Rattle.event_log.specs.{declared.grants.GrantEvent.{GrantEvent, TheVariants.Peek}, Actions.{Action, Try, Waits, phase, renamed, ticket_index_of}}
+use Rattle.event_log.{specs.{Grants.grant_word, Sections.sections_in}, proofs.{Same.same_cpu_true, Renaming.phase_renamed}}
+use Rattle.layer_traits.specs.{Protocols.AsGrants.as_grants, Polling.Spins.Misses}
 
 -- zero polls are failed polls
 pub none_missed : {N : Type 0} (cpu : CpuId) (acts : List (Action N)) → Misses cpu 0 acts acts
@@ -21,7 +21,7 @@ module _ {N : Type 0} (cpu : CpuId) (lock : LockId) (old : List (Action N)) wher
   pub same_phase : (c : CpuId) (looks : ℕ) → (0 < looks → phase cpu old ≡ Waits lock) → phase c (missed looks) ≡ phase c old
   same_phase c looks given = grind (arith, phase_missed)
 
-  pub same_spot : (c : CpuId) (looks : ℕ) → spot_of c (missed looks) ≡ spot_of c old
+  pub same_spot : (c : CpuId) (looks : ℕ) → ticket_index_of c (missed looks) ≡ ticket_index_of c old
   same_spot c zero = refl
   same_spot c (suc looks) = same_spot c looks
 
@@ -32,13 +32,13 @@ module _ {N : Type 0} (cpu : CpuId) (lock : LockId) (old : List (Action N)) wher
 -- what failed polls leave
 pub record LeftSame {N : Type 0} (old new : List (Action N)) : Type 0 where
   pub phases : (c : CpuId) → phase c new ≡ phase c old
-  pub spots : (c : CpuId) → spot_of c new ≡ spot_of c old
+  pub indices : (c : CpuId) → ticket_index_of c new ≡ ticket_index_of c old
   pub sections : sections_in new ≡ sections_in old
 
 pub left_same : {N : Type 0} (cpu : CpuId) (looks : ℕ) (old new : List (Action N)) → Misses cpu looks old new → LeftSame old new
 left_same cpu looks old new misses = record {
   phases = λ c. ap (phase c) misses.grows ∙ same_phase cpu misses.lock old c looks misses.waits;
-  spots = λ c. ap (spot_of c) misses.grows ∙ same_spot cpu misses.lock old c looks;
+  indices = λ c. ap (ticket_index_of c) misses.grows ∙ same_spot cpu misses.lock old c looks;
   sections = ap sections_in misses.grows ∙ same_sections cpu misses.lock old looks;
 }
 

@@ -48,14 +48,15 @@ impl<B: Drop> BlockBox<B> {
 #[inline(always)]
 pub fn edit_in_box<E: SplitEdit>(
     boxed: &mut BlockBox<E::Block>,
-    handed: &E::Handed,
+    handed: &E::Request,
     payload: &mut Payload,
-) -> E::Brought
-    ensures block { boxed.new ≡ E.rules.edited (E.meant handed.now payload.old) boxed.old }
-    ensures answer { E.told result payload.new
-        ≡ E.rules.answer (E.meant handed.now payload.old) boxed.old }
+) -> E::Response
+    ensures block { boxed.new
+        ≡ E.protocol.edited (E.abstract_call handed.now payload.old) boxed.old }
+    ensures answer { E.abstract_answer result payload.new
+        ≡ E.protocol.answer (E.abstract_call handed.now payload.old) boxed.old }
 {
-    E::apply_handed(handed, &mut boxed.content, payload)
+    E::apply_request(handed, &mut boxed.content, payload)
 }
 
 /// Appends `t` to the queue that the box holds.

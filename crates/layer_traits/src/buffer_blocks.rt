@@ -5,13 +5,13 @@
 ghost use Rattle.std.specs.Prelude.{◌≡◌, ◌≤◌, ◌++◌, ◌∷◌, [], if◌then◌else◌};
 ghost use Rattle.{event_log.specs.declared.ids.TheConstants.CAPACITY, layer_traits.specs.declared.buffer_edits.BufferEdit.TheVariants.{Enter, TryPut, TryTake}};
 ghost use Rattle.layer_traits.specs.declared.{buffer_edits.BufferEdit.TheVariants.Shut, locked.Side.TheVariants.{Receivers, Senders}};
-ghost use Rattle.layer_traits.specs.Blocks.{Payloads.buffer_told, BufferBlocks.{buffer_answer, buffer_edited, empty_block, front_ready, is_first, may_go}};
-ghost use Rattle.layer_traits.specs.Blocks.BufferBlocks.{may_join};
+ghost use Rattle.layer_traits.specs.Blocks.{Payloads.abstract_buffer_answer, BufferBlocks.{buffer_answer, buffer_edited, empty_block, front_ready, is_first}};
+ghost use Rattle.layer_traits.specs.Blocks.BufferBlocks.{may_go, may_join};
 
-use crate::buffer_edits::{BareBufferEdit, BareBufferOut, BufferEdit, BufferOut};
+use crate::buffer_edits::{BareBufferEdit, BareBufferReply, BufferEdit, BufferReply};
 use crate::conditions::{Guarded, WholeGuarded};
 use crate::locked::Side;
-use crate::payloads::Parcel;
+use crate::payloads::MessageSlot;
 use arrayvec::ArrayVec;
 use event_log::{CAPACITY, Kind, Msg, Ring, THREADS, Tid};
 use std::marker::Model;
@@ -103,10 +103,11 @@ impl BufferBlock {
         self.closed || 0 < self.items.len()
     }
 
-    /// Puts `t` into the queue of this side, and stores its position in `parcel`.
-    fn enter(&mut self, t: Tid, side: Side, parcel: &mut Parcel) -> BareBufferOut
+    /// Puts `t` into the queue of this side, and stores its position in `message_slot`.
+    fn enter(&mut self, t: Tid, side: Side, message_slot: &mut MessageSlot) -> BareBufferReply
         ensures block { self.new ≡ buffer_edited (Enter t side) self.old }
-        ensures answer { buffer_told result parcel.new ≡ buffer_answer (Enter t side) self.old }
+        ensures answer { abstract_buffer_answer result message_slot.new
+            ≡ buffer_answer (Enter t side) self.old }
     {
         match side {
             Side::Receivers => {
@@ -114,86 +115,88 @@ impl BufferBlock {
                 if join(&mut self.receive_line, t) {
                     self.receives = position.wrapping_add(1);
                 }
-                parcel.first = position;
-                BareBufferOut::Entered
+                message_slot.first = position;
+                BareBufferReply::Entered
             }
             Side::Senders => {
                 let position = self.sends;
                 if join(&mut self.send_line, t) {
                     self.sends = position.wrapping_add(1);
                 }
-                parcel.first = position;
-                BareBufferOut::Entered
+                message_slot.first = position;
+                BareBufferReply::Entered
             }
         }
     }
 
-    /// Puts the message of `parcel` for `t`, if `t` is the first sender and there is room. A closed
+    /// Puts the message of `message_slot` for `t`, if `t` is the first sender and there is room. A closed
     /// buffer takes no message, and the result says so.
-    fn put(&mut self, t: Tid, parcel: &mut Parcel) -> BareBufferOut
-        ensures block { self.new ≡ buffer_edited (TryPut t parcel.old.message) self.old }
-        ensures answer { buffer_told result parcel.new
-            ≡ buffer_answer (TryPut t parcel.old.message) self.old }
+    fn put(&mut self, t: Tid, message_slot: &mut MessageSlot) -> BareBufferReply
+        ensures block { self.new ≡ buffer_edited (TryPut t message_slot.old.message) self.old }
+        ensures answer { abstract_buffer_answer result message_slot.new
+            ≡ buffer_answer (TryPut t message_slot.old.message) self.old }
     {
         if !leads(&self.send_line, t) {
-            return BareBufferOut::NotYet;
+            return BareBufferReply::NotYet;
         }
         if !self.may_put() {
-            return BareBufferOut::NotYet;
+            return BareBufferReply::NotYet;
         }
         let op = self.effects;
         let _ = self.send_line.pop();
         self.effects = op.wrapping_add(1);
-        parcel.first = op;
+        message_slot.first = op;
         if self.closed {
-            return BareBufferOut::Done(Kind::SendClosed);
+            return BareBufferReply::Done(Kind::SendClosed);
         }
-        self.items.put(parcel.message);
-        BareBufferOut::Done(Kind::Send)
+        self.items.put(message_slot.message);
+        BareBufferReply::Done(Kind::Send)
     }
 
-    /// Takes the first item for `t` into `parcel`, if `t` is the first receiver and there is an
+    /// Takes the first item for `t` into `message_slot`, if `t` is the first receiver and there is an
     /// item. If the buffer is closed and empty, the result says so.
-    fn take(&mut self, t: Tid, parcel: &mut Parcel) -> BareBufferOut
+    fn take(&mut self, t: Tid, message_slot: &mut MessageSlot) -> BareBufferReply
         ensures block { self.new ≡ buffer_edited (TryTake t) self.old }
-        ensures answer { buffer_told result parcel.new ≡ buffer_answer (TryTake t) self.old }
+        ensures answer { abstract_buffer_answer result message_slot.new
+            ≡ buffer_answer (TryTake t) self.old }
     {
         if !leads(&self.receive_line, t) {
-            return BareBufferOut::NotYet;
+            return BareBufferReply::NotYet;
         }
         if !self.may_take() {
-            return BareBufferOut::NotYet;
+            return BareBufferReply::NotYet;
         }
         let op = self.effects;
         let _ = self.receive_line.pop();
         self.effects = op.wrapping_add(1);
-        parcel.first = op;
+        message_slot.first = op;
         match self.items.take() {
             None => {
-                parcel.message = Msg::none();
-                BareBufferOut::Done(Kind::RecvClosed)
+                message_slot.message = Msg::none();
+                BareBufferReply::Done(Kind::RecvClosed)
             }
             Some(item) => {
-                parcel.message = item;
-                BareBufferOut::Done(Kind::Recv)
+                message_slot.message = item;
+                BareBufferReply::Done(Kind::Recv)
             }
         }
     }
 
-    /// Closes the buffer, which may be closed already, and stores in `parcel` how many effects and
+    /// Closes the buffer, which may be closed already, and stores in `message_slot` how many effects and
     /// how many closes it had before.
-    fn shut(&mut self, t: Tid, parcel: &mut Parcel) -> BareBufferOut
+    fn shut(&mut self, t: Tid, message_slot: &mut MessageSlot) -> BareBufferReply
         ensures block { self.new ≡ buffer_edited (Shut t) self.old }
-        ensures answer { buffer_told result parcel.new ≡ buffer_answer (Shut t) self.old }
+        ensures answer { abstract_buffer_answer result message_slot.new
+            ≡ buffer_answer (Shut t) self.old }
     {
         let op = self.effects;
         let position = self.closes;
         self.closed = true;
         self.effects = op.wrapping_add(1);
         self.closes = position.wrapping_add(1);
-        parcel.first = op;
-        parcel.second = position;
-        BareBufferOut::WasShut
+        message_slot.first = op;
+        message_slot.second = position;
+        BareBufferReply::WasShut
     }
 
     /// Returns the thread at the head of this side's queue, if it may proceed.
@@ -245,21 +248,21 @@ fn leads(line: &ThreadQueue, t: Tid) -> bool
 }
 
 impl Guarded for BufferEdit {
-    ghost use Rattle.layer_traits.specs.Blocks.{BufferProtocol.buffer_monitor_rules, Payloads.{buffer_meant, buffer_told}};
+    ghost use Rattle.layer_traits.specs.Blocks.{BufferProtocol.buffer_monitor_rules, Payloads.{abstract_buffer_edit, abstract_buffer_answer}};
 
     type Block = BufferBlock;
 
-    type Out = BufferOut;
+    type Out = BufferReply;
 
-    type Handed = BareBufferEdit;
+    type Request = BareBufferEdit;
 
-    type Brought = BareBufferOut;
+    type Response = BareBufferReply;
 
     ghost monitor_rules = { buffer_monitor_rules };
 
-    ghost meant = { buffer_meant };
+    ghost abstract_call = { abstract_buffer_edit };
 
-    ghost told = { buffer_told };
+    ghost abstract_answer = { abstract_buffer_answer };
 
     fn caller(handed: &BareBufferEdit) -> Tid {
         match handed {
@@ -270,26 +273,26 @@ impl Guarded for BufferEdit {
         }
     }
 
-    fn whole(handed: &BareBufferEdit, parcel: &Parcel) -> BufferEdit {
+    fn whole(handed: &BareBufferEdit, message_slot: &MessageSlot) -> BufferEdit {
         match handed {
             BareBufferEdit::Enter(t, side) => BufferEdit::Enter(*t, *side),
-            BareBufferEdit::TryPut(t) => BufferEdit::TryPut(*t, parcel.message),
+            BareBufferEdit::TryPut(t) => BufferEdit::TryPut(*t, message_slot.message),
             BareBufferEdit::TryTake(t) => BufferEdit::TryTake(*t),
             BareBufferEdit::Shut(t) => BufferEdit::Shut(*t),
         }
     }
 
     #[inline(always)]
-    fn apply_handed(
+    fn apply_request(
         handed: &BareBufferEdit,
         block: &mut BufferBlock,
-        parcel: &mut Parcel,
-    ) -> BareBufferOut {
+        message_slot: &mut MessageSlot,
+    ) -> BareBufferReply {
         match handed {
-            BareBufferEdit::Enter(t, side) => block.enter(*t, *side, parcel),
-            BareBufferEdit::TryPut(t) => block.put(*t, parcel),
-            BareBufferEdit::TryTake(t) => block.take(*t, parcel),
-            BareBufferEdit::Shut(t) => block.shut(*t, parcel),
+            BareBufferEdit::Enter(t, side) => block.enter(*t, *side, message_slot),
+            BareBufferEdit::TryPut(t) => block.put(*t, message_slot),
+            BareBufferEdit::TryTake(t) => block.take(*t, message_slot),
+            BareBufferEdit::Shut(t) => block.shut(*t, message_slot),
         }
     }
 
@@ -299,11 +302,11 @@ impl Guarded for BufferEdit {
 }
 
 impl WholeGuarded for BufferEdit {
-    fn hand_on(self, parcel: &mut Parcel) -> BareBufferEdit {
+    fn hand_on(self, message_slot: &mut MessageSlot) -> BareBufferEdit {
         match self {
             BufferEdit::Enter(t, side) => BareBufferEdit::Enter(t, side),
             BufferEdit::TryPut(t, put) => {
-                parcel.message = put;
+                message_slot.message = put;
                 BareBufferEdit::TryPut(t)
             }
             BufferEdit::TryTake(t) => BareBufferEdit::TryTake(t),
@@ -311,12 +314,19 @@ impl WholeGuarded for BufferEdit {
         }
     }
 
-    fn bring_back(brought: BareBufferOut, parcel: &Parcel) -> BufferOut {
-        match brought {
-            BareBufferOut::Entered => BufferOut::Entered(parcel.first),
-            BareBufferOut::NotYet => BufferOut::NotYet,
-            BareBufferOut::Done(kind) => BufferOut::Done(kind, parcel.first, parcel.message),
-            BareBufferOut::WasShut => BufferOut::WasShut(parcel.first, parcel.second),
+    fn bring_back(response: BareBufferReply, message_slot: &MessageSlot) -> BufferReply {
+        match response {
+            BareBufferReply::Entered => BufferReply::Entered(message_slot.first),
+            BareBufferReply::NotYet => BufferReply::NotYet,
+            BareBufferReply::Done(kind) => BufferReply::Done(
+                kind,
+                message_slot.first,
+                message_slot.message,
+            ),
+            BareBufferReply::WasShut => BufferReply::WasShut(
+                message_slot.first,
+                message_slot.second,
+            ),
         }
     }
 }

@@ -22,7 +22,7 @@ pub enum BufferEdit {
 
 /// The result of an edit of a buffer.
 #[derive(Clone, Copy)]
-pub enum BufferOut {
+pub enum BufferReply {
     /// The thread has this position: how many had entered this queue before it, modulo 2^64.
     Entered(u64),
     /// It was not the thread's turn, or the buffer was open and had no room or no message: nothing
@@ -52,14 +52,14 @@ pub enum BareBufferEdit {
 /// The form in which layers pass a buffer's result back up. The message and the numbers that it
 /// brings are in the payload, so that what is passed by value is small.
 #[derive(Clone, Copy)]
-pub enum BareBufferOut {
-    /// [`BufferOut::Entered`], with the position as the payload's first number.
+pub enum BareBufferReply {
+    /// [`BufferReply::Entered`], with the position as the payload's first number.
     Entered,
-    /// [`BufferOut::NotYet`].
+    /// [`BufferReply::NotYet`].
     NotYet,
-    /// [`BufferOut::Done`], with the payload's message; its first number is how many effects there
+    /// [`BufferReply::Done`], with the payload's message; its first number is how many effects there
     /// were.
     Done(Kind),
-    /// [`BufferOut::WasShut`], with both numbers in the payload.
+    /// [`BufferReply::WasShut`], with both numbers in the payload.
     WasShut,
 }

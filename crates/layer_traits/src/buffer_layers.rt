@@ -11,7 +11,7 @@ use crate::call_layers::{CallLaw, CallLayer};
 pub struct BufferLaw;
 
 impl CallLaw for BufferLaw {
-    ghost IsThere = { λ caps call. (buffer_of call).0 < length caps };
+    ghost LockExists = { λ caps call. (buffer_of call).0 < length caps };
 
     ghost IsCount = { λ caps buffers. Unit {0} };
 

@@ -24,7 +24,7 @@ use event_log::{CpuId, Msg, Tid};
 /// The law of a layer whose calls send messages and receive them.
 pub trait CallLaw {
     /// What the call is on exists, with buffers of these capacities.
-    ghost IsThere: { List ℕ → Call → Type 0 };
+    ghost LockExists: { List ℕ → Call → Type 0 };
 
     /// A part that was made for so many buffers fits buffers of these capacities.
     ghost IsCount: { List ℕ → ℕ → Type 0 };
@@ -44,7 +44,7 @@ pub trait CallLayer<L: CallLaw>: Sized {
     type Machine;
 
     /// The effects that the holder of the machine has observed, newest first.
-    ghost seen: { Self.Machine → List Entry };
+    ghost history: { Self.Machine → List Entry };
 
     /// The moves of threads that it has observed, newest first.
     ghost moves: { Self.Machine → List Step };
@@ -60,7 +60,7 @@ pub trait CallLayer<L: CallLaw>: Sized {
 
     /// Which machine it is, as numbers; a machine that no caller must recognize needs none. No poll
     /// changes it.
-    ghost site: { Self.Machine → List ℕ } = { λ _. [] };
+    ghost machine_id: { Self.Machine → List ℕ } = { λ _. [] };
 
     /// Nothing was done in the machine, whose threads have these homes, and it has what a part of
     /// this CPU needs.
@@ -79,7 +79,7 @@ pub trait CallLayer<L: CallLaw>: Sized {
     ghost under_way: { Self → Option UnderWay };
 
     /// Coupling invariant: the part and the machine agree.
-    ghost Fits: { Self → Self.Machine → Type 0 };
+    ghost Coupled: { Self → Self.Machine → Type 0 };
 
     /// Whether one poll is one call: the call takes effect at the first poll at which its buffer
     /// allows it.
@@ -95,7 +95,7 @@ pub trait CallLayer<L: CallLaw>: Sized {
     ghost acts: { Self.Machine → List (Action (QueueEdit (CvCall BufferEdit))) };
 
     /// The CPU's private state.
-    ghost own: { Self → Buffering };
+    ghost local: { Self → Buffering };
 
     /// Returns the part of `cpu` at boot: its threads are ready, and none has called. `homes` holds
     /// the home of each thread, and the buffers are numbered from 0 to `buffers - 1`.
@@ -105,9 +105,9 @@ pub trait CallLayer<L: CallLaw>: Sized {
         requires { length homes.now ≤ THREADS }
         ensures cpu { cpu_of result ≡ cpu }
         ensures under_way { under_way result ≡ None }
-        ensures own { own result ≡ buffering_at_start homes.now cpu }
-        ensures fits { (m : Self.Machine) → IsFresh m homes.now cpu
-            → L.IsCount (caps_in (opening m)) buffers → Fits result m };
+        ensures local { local result ≡ buffering_at_start homes.now cpu }
+        ensures coupled { (m : Self.Machine) → IsFresh m homes.now cpu
+            → L.IsCount (caps_in (opening m)) buffers → Coupled result m };
 
     /// Returns whether a section is under way.
     fn is_busy(&self) -> bool
@@ -115,12 +115,12 @@ pub trait CallLayer<L: CallLaw>: Sized {
 
     /// Returns the CPU's threads, without a copy.
     fn own_threads(&self) -> &OwnThreads
-        ensures { result.now ≡ threads_in (own self.now) };
+        ensures { result.now ≡ threads_in (local self.now) };
 
     /// Returns the thread that runs.
     #[inline(always)]
     fn current(&self) -> Option<Tid>
-        ensures { result ≡ (threads_in (own self.now)).current }
+        ensures { result ≡ (threads_in (local self.now)).current }
     {
         self.own_threads().current()
     }
@@ -129,7 +129,7 @@ pub trait CallLayer<L: CallLaw>: Sized {
     /// CPU.
     #[inline(always)]
     fn hand(&self) -> Option<Tid>
-        ensures { result ≡ (threads_in (own self.now)).hand }
+        ensures { result ≡ (threads_in (local self.now)).hand }
     {
         self.own_threads().hand()
     }
@@ -137,8 +137,8 @@ pub trait CallLayer<L: CallLaw>: Sized {
     /// Returns whether a thread is ready.
     #[inline(always)]
     fn has_ready(&self) -> bool
-        ensures some { result ≡ true → (threads_in (own self.now)).ready ≢ [] }
-        ensures none { result ≡ false → (threads_in (own self.now)).ready ≡ [] }
+        ensures some { result ≡ true → (threads_in (local self.now)).ready ≢ [] }
+        ensures none { result ≡ false → (threads_in (local self.now)).ready ≡ [] }
     {
         self.own_threads().has_ready()
     }
@@ -149,14 +149,14 @@ pub trait CallLayer<L: CallLaw>: Sized {
     /// Requires: `t` is below `THREADS`.
     fn effect(&self, t: Tid) -> Option<Effect>
         requires { t.0 < THREADS }
-        ensures { result ≡ (call_state_of (own self.now).call_states t).effect };
+        ensures { result ≡ (call_state_of (local self.now).call_states t).effect };
 
     /// Returns the same effect, without a copy.
     ///
     /// Requires: `t` is below `THREADS`.
     fn effect_here(&self, t: Tid) -> &Option<Effect>
         requires { t.0 < THREADS }
-        ensures { result.now ≡ (call_state_of (own self.now).call_states t).effect };
+        ensures { result.now ≡ (call_state_of (local self.now).call_states t).effect };
 
     /// Polls the lock again for a section that waits at it, and returns whether it did. Such a poll
     /// ends no call, so that it needs no call and has no result. If it returns `false` nothing has
@@ -164,9 +164,10 @@ pub trait CallLayer<L: CallLaw>: Sized {
     ///
     /// Requires: part and machine agree, and there is room for an event.
     fn look(&mut self, m: &mut Self::Machine) -> bool
-        requires fits { Fits self.old m.old }
+        requires coupled { Coupled self.old m.old }
         requires room { 0 < room m.old }
-        ensures { Looked Fits cpu_of opening site room ActsFor MayHold own is_inside under_way seen
+        ensures { Looked Coupled cpu_of opening machine_id room ActsFor MayHold local is_inside
+            under_way history
             moves acts
             IsWhole IsStepwise L.plan result self.old m.old self.new m.new };
 
@@ -178,15 +179,16 @@ pub trait CallLayer<L: CallLaw>: Sized {
     /// Requires: part and machine agree. Fewer than `most` actions are taken, and there is room for
     /// as many events as are left.
     fn looks(&mut self, m: &mut Self::Machine, taken: &mut usize, most: usize) -> bool
-        requires fits { Fits self.old m.old }
+        requires coupled { Coupled self.old m.old }
         requires some { taken.old < most }
         requires room { most ≤ taken.old + room m.old }
         ensures more { taken.old ≤ taken.new }
         ensures few { taken.new ≤ most }
         ensures ends { result ≡ true → (taken.new ≡ most) ⊎ (taken.new ≡ taken.old + 2) }
         ensures goes_on { result ≡ false → (taken.new < most) × (taken.new < taken.old + 2) }
-        ensures looked_on { LookedOn Fits cpu_of opening site room ActsFor MayHold own is_inside
-            under_way seen moves acts
+        ensures looked_on { LookedOn Coupled cpu_of opening machine_id room ActsFor MayHold local
+            is_inside
+            under_way history moves acts
             IsWhole IsStepwise L.plan self.old m.old taken.old taken.new self.new m.new };
 
     /// Records failed polls of a section that waits at its lock, as long as a poll would fail. It
@@ -197,11 +199,12 @@ pub trait CallLayer<L: CallLaw>: Sized {
     /// Requires: part and machine agree, and there is room for as many events as there are steps.
     #[inline(always)]
     fn spin(&self, m: &mut Self::Machine, steps: &[CpuId]) -> usize
-        requires fits { Fits self.now m.old }
+        requires coupled { Coupled self.now m.old }
         requires room { length steps.now ≤ room m.old }
         ensures few { BeginWith (cpu_of self.now) result steps.now }
         ensures still { result ≡ 0 → m.new ≡ m.old }
-        ensures spun { Spun Fits opening site seen room ActsFor MayHold result m.old m.new }
+        ensures spun { Spun Coupled opening machine_id history room ActsFor MayHold result m.old
+            m.new }
         ensures moves { moves m.new ≡ moves m.old }
         ensures wait_lists { wait_lists m.new ≡ wait_lists m.old }
         ensures tries { IsStepwise → Misses (cpu_of self.now) result (acts m.old) (acts m.new) }
@@ -218,17 +221,18 @@ pub trait CallLayer<L: CallLaw>: Sized {
     /// and `t` runs here. The call is the one that `t` has begun, or `t` is between calls. The CPU
     /// has no other pending call. If it has none, its hand is empty.
     fn poll_kind(&mut self, m: &mut Self::Machine, t: Tid, call: &Call) -> Option<ReplyKind>
-        requires fits { Fits self.old m.old }
-        requires there { L.IsThere (caps_in (opening m.old)) call.now }
+        requires coupled { Coupled self.old m.old }
+        requires there { L.LockExists (caps_in (opening m.old)) call.now }
         requires room { 0 < room m.old }
-        requires runs { (threads_in (own self.old)).current ≡ Some t }
-        requires hand { under_way self.old ≡ None → (threads_in (own self.old)).hand ≡ None }
-        requires same { MayPollCall (call_state_of (own self.old).call_states t) call.now }
+        requires runs { (threads_in (local self.old)).current ≡ Some t }
+        requires hand { under_way self.old ≡ None → (threads_in (local self.old)).hand ≡ None }
+        requires same { MayPollCall (call_state_of (local self.old).call_states t) call.now }
         requires goes_on { MayGoOn (under_way self.old) (Calling t) }
-        ensures { Polled Fits cpu_of opening site room ActsFor MayHold own is_inside under_way seen
+        ensures { Polled Coupled cpu_of opening machine_id room ActsFor MayHold local is_inside
+            under_way history
             moves acts
             IsWhole IsStepwise L.plan t call.now self.old m.old self.new m.new
-            (answer_in (own self.new).call_states t result) };
+            (answer_in (local self.new).call_states t result) };
 
     /// Performs up to `most` actions of the call of `t`, one after the other. The first is a poll
     /// of the call, and each later one a poll of the call or of its section's lock. It continues at
@@ -239,17 +243,18 @@ pub trait CallLayer<L: CallLaw>: Sized {
     /// Requires: as `poll_kind`, with room for `most` events. `most` is not 0.
     #[inline(always)]
     fn poll_on(&mut self, m: &mut Self::Machine, t: Tid, call: &Call, most: usize) -> PollRun
-        requires fits { Fits self.old m.old }
-        requires there { L.IsThere (caps_in (opening m.old)) call.now }
+        requires coupled { Coupled self.old m.old }
+        requires there { L.LockExists (caps_in (opening m.old)) call.now }
         requires some { 0 < most }
         requires room { most ≤ room m.old }
-        requires runs { (threads_in (own self.old)).current ≡ Some t }
-        requires hand { under_way self.old ≡ None → (threads_in (own self.old)).hand ≡ None }
-        requires same { MayPollCall (call_state_of (own self.old).call_states t) call.now }
+        requires runs { (threads_in (local self.old)).current ≡ Some t }
+        requires hand { under_way self.old ≡ None → (threads_in (local self.old)).hand ≡ None }
+        requires same { MayPollCall (call_state_of (local self.old).call_states t) call.now }
         requires goes_on { MayGoOn (under_way self.old) (Calling t) }
         ensures few { result.actions ≤ most }
-        ensures polled_on { PolledOn Fits cpu_of opening site room ActsFor MayHold own is_inside
-            under_way seen moves acts
+        ensures polled_on { PolledOn Coupled cpu_of opening machine_id room ActsFor MayHold local
+            is_inside
+            under_way history moves acts
             IsWhole IsStepwise L.plan t call.now self.old m.old result.actions self.new m.new
             result.reply }
     {
@@ -264,14 +269,15 @@ pub trait CallLayer<L: CallLaw>: Sized {
     /// Requires: as `poll_kind`.
     #[inline(always)]
     fn poll(&mut self, m: &mut Self::Machine, t: Tid, call: &Call) -> Option<Reply>
-        requires fits { Fits self.old m.old }
-        requires there { L.IsThere (caps_in (opening m.old)) call.now }
+        requires coupled { Coupled self.old m.old }
+        requires there { L.LockExists (caps_in (opening m.old)) call.now }
         requires room { 0 < room m.old }
-        requires runs { (threads_in (own self.old)).current ≡ Some t }
-        requires hand { under_way self.old ≡ None → (threads_in (own self.old)).hand ≡ None }
-        requires same { MayPollCall (call_state_of (own self.old).call_states t) call.now }
+        requires runs { (threads_in (local self.old)).current ≡ Some t }
+        requires hand { under_way self.old ≡ None → (threads_in (local self.old)).hand ≡ None }
+        requires same { MayPollCall (call_state_of (local self.old).call_states t) call.now }
         requires goes_on { MayGoOn (under_way self.old) (Calling t) }
-        ensures { Polled Fits cpu_of opening site room ActsFor MayHold own is_inside under_way seen
+        ensures { Polled Coupled cpu_of opening machine_id room ActsFor MayHold local is_inside
+            under_way history
             moves acts
             IsWhole IsStepwise L.plan t call.now self.old m.old self.new m.new result }
     {
@@ -286,44 +292,46 @@ pub trait CallLayer<L: CallLaw>: Sized {
     /// Requires: part and machine agree, there is room for an event, the CPU's threads allow the
     /// pass, and no other call is pending.
     fn pass(&mut self, m: &mut Self::Machine, call: Pass) -> Option<()>
-        requires fits { Fits self.old m.old }
+        requires coupled { Coupled self.old m.old }
         requires room { 0 < room m.old }
-        requires may { MayPass call (threads_in (own self.old)) }
+        requires may { MayPass call (threads_in (local self.old)) }
         requires goes_on { MayGoOn (under_way self.old) (Passing call) }
-        ensures seen { OthersSeen (ActsFor m.old) (seen m.old) (seen m.new) }
+        ensures history { OthersSeen (ActsFor m.old) (history m.old) (history m.new) }
         ensures passed { PassPolled (homes_in (opening m.old)) (ActsFor m.old) (cpu_of self.old)
             call result (moves m.old) (moves m.new)
-            (threads_in (own self.old)) (threads_in (own self.new)) }
+            (threads_in (local self.old)) (threads_in (local self.new)) }
         ensures under_way { under_way self.new ≡ still_passing call result }
-        ensures call_states { (own self.new).call_states ≡ (own self.old).call_states }
+        ensures call_states { (local self.new).call_states ≡ (local self.old).call_states }
         ensures still { IsLocalPass call → m.new ≡ m.old }
         ensures prompt { IsWhole → IsSome result }
-        ensures framed { Framed Fits cpu_of opening site room ActsFor MayHold self.old self.new
+        ensures framed { Framed Coupled cpu_of opening machine_id room ActsFor MayHold self.old
+            self.new
             m.old m.new }
         ensures follows { IsStepwise
             → Follows (ActsFor m.old)
             (table_of (queue_rules (lock_rules buffer_rules) (lock_moves buffer_rules)))
             (opening m.old) (cpu_of self.old)
-            (fifo_pass_plan (homes_in (opening m.old)) (cpu_of self.old) call (own self.old))
-            (acts m.old) (acts m.new) (record { own = own self.new; answer = result }) };
+            (fifo_pass_plan (homes_in (opening m.old)) (cpu_of self.old) call (local self.old))
+            (acts m.old) (acts m.new) (record { local = local self.new; answer = result }) };
 
     /// Law: a part that agrees with a machine is of a CPU for which the machine's holder acts.
-    ghost own_cpu: { (p : Self) (m : Self.Machine) → Fits p m → ActsFor m (cpu_of p) };
+    ghost own_cpu: { (p : Self) (m : Self.Machine) → Coupled p m → ActsFor m (cpu_of p) };
 
     /// Law: each effect in the history may follow those before it.
-    ghost lawful: { (m : Self.Machine) (c : CpuId) → ActsFor m c → IsLawful (MayTakeEffect (caps_in (opening m))) (seen m) };
+    ghost lawful: { (m : Self.Machine) (c : CpuId) → ActsFor m c → IsLawful (MayTakeEffect (caps_in (opening m))) (history m) };
 
     /// Law: a CPU's threads are in the places that the moves say.
-    ghost stands: { (p : Self) (m : Self.Machine) → Fits p m → Stands (homes_in (opening m)) (cpu_of p) (moves m) (threads_in (own p)) };
+    ghost stands: { (p : Self) (m : Self.Machine) → Coupled p m → Stands (homes_in (opening m)) (cpu_of p) (moves m) (threads_in (local p)) };
 
     /// Law: each move in the history may follow those before it.
     ghost moves_legal: { (m : Self.Machine) (c : CpuId) → ActsFor m c → AreMoves (homes_in (opening m)) (moves m) };
 
     /// Law: the waiting lists of the buffers and the threads' places agree.
-    ghost lists: { (p : Self) (m : Self.Machine) → Fits p m → WaitListsAgree (length (caps_in (opening m))) (homes_in (opening m)) (moves m) (wait_lists m) };
+    ghost lists: { (p : Self) (m : Self.Machine) → Coupled p m
+        → WaitListsAgree (length (caps_in (opening m))) (homes_in (opening m)) (moves m) (wait_lists m) };
 
     /// Law: if the CPU has no pending call, no section is under way.
-    ghost idle: { (p : Self) (m : Self.Machine) → Fits p m → under_way p ≡ None → is_inside p ≡ false };
+    ghost idle: { (p : Self) (m : Self.Machine) → Coupled p m → under_way p ≡ None → is_inside p ≡ false };
 
     /// Law: the opening blocks are those of a machine in which nothing was done, and each home of a
     /// thread has its queue.
@@ -335,7 +343,7 @@ pub trait CallLayer<L: CallLaw>: Sized {
     /// Law: if a poll is one action, the effects are those of the sections of the actions. Each has
     /// the position that its thread drew.
     ghost seen_is: { IsStepwise → (m : Self.Machine)
-        → seen m ≡ effects_in (inner (opening m)) (buffer_sections (map event_of (sections_in (acts m)))) };
+        → history m ≡ effects_in (inner (opening m)) (buffer_sections (map event_of (sections_in (acts m)))) };
 
     /// Law: if a poll is one action, the threads, moves and waiting lists that the layer reports
     /// are what the sections of the actions make of them. The same holds of the pending queues.
@@ -344,7 +352,7 @@ pub trait CallLayer<L: CallLaw>: Sized {
 
     /// Law: if a poll is one action, a part has a section under way exactly while its CPU waits at
     /// a lock or holds one.
-    ghost busy: { (p : Self) (m : Self.Machine) → Fits p m → IsStepwise → is_inside p ≡ is_in_section (phase (cpu_of p) (acts m)) };
+    ghost busy: { (p : Self) (m : Self.Machine) → Coupled p m → IsStepwise → is_inside p ≡ is_in_section (phase (cpu_of p) (acts m)) };
 
     /// Law: if a poll is one action, a fresh machine's blocks are those of its capacities and
     /// homes.

@@ -6,7 +6,7 @@
 ghost use Rattle.std.specs.Prelude.{◌≡◌, Option};
 
 use crate::locked::{Locked, Side, WakeWaiter, WholeLocked};
-use crate::payloads::Parcel;
+use crate::payloads::MessageSlot;
 use event_log::Tid;
 
 /// What the owner of a lock with conditions does inside.
@@ -29,7 +29,7 @@ pub enum CvLeave {
 
 /// The result of a section of a lock with conditions.
 #[derive(Clone, Copy)]
-pub enum CvOut<O> {
+pub enum CvReply<O> {
     /// The block was edited, with this result.
     Did(O),
     /// The thread at the head of this side's queue was to be woken; `None` if none there may
@@ -44,7 +44,7 @@ pub enum CvOut<O> {
 /// A pure edit of the block of a lock with conditions. The block has a queue for each side, and
 /// determines whether the first of a queue may proceed.
 pub trait Guarded: Sized + Drop {
-    ghost use Rattle.layer_traits.specs.{declared.payloads.Parcel.Parcel, Layers.Conditions.MonitorRules};
+    ghost use Rattle.layer_traits.specs.{declared.payloads.MessageSlot.MessageSlot, Layers.Conditions.MonitorRules};
 
     /// What the lock guards.
     type Block: Drop;
@@ -53,39 +53,41 @@ pub trait Guarded: Sized + Drop {
     type Out: Drop;
 
     /// The form in which layers pass an edit down.
-    type Handed: Drop;
+    type Request: Drop;
 
     /// The form in which layers pass a result back up.
-    type Brought: Drop;
+    type Response: Drop;
 
     /// What an edit means: its caller, the block that it leaves and its result. Which thread is at
     /// the head of a side's queue and may proceed. After which sections which CPU may do which.
     ghost monitor_rules: { MonitorRules Self Self.Block Self.Out };
 
     /// Returns the thread that edits.
-    fn caller(handed: &Self::Handed) -> Tid
-        ensures { (parcel : Parcel) → result ≡ monitor_rules.caller (meant handed.now parcel) };
+    fn caller(handed: &Self::Request) -> Tid
+        ensures { (message_slot : MessageSlot)
+            → result ≡ monitor_rules.caller (abstract_call handed.now message_slot) };
 
     /// Abstraction function: the edit that a passed-down form means, with this message beside it.
-    ghost meant: { Self.Handed → Parcel → Self };
+    ghost abstract_call: { Self.Request → MessageSlot → Self };
 
     /// Abstraction function: the result that a passed-back form means, with this message beside it.
-    ghost told: { Self.Brought → Parcel → Self.Out };
+    ghost abstract_answer: { Self.Response → MessageSlot → Self.Out };
 
     /// Returns the edit that `handed` means.
-    fn whole(handed: &Self::Handed, parcel: &Parcel) -> Self
-        ensures { result ≡ meant handed.now parcel.now };
+    fn whole(handed: &Self::Request, message_slot: &MessageSlot) -> Self
+        ensures { result ≡ abstract_call handed.now message_slot.now };
 
     /// Performs on `block` the edit that `handed` means. What it returns, with the message that it
     /// leaves, means the edit's result. It is given no allocator.
-    fn apply_handed(
-        handed: &Self::Handed,
+    fn apply_request(
+        handed: &Self::Request,
         block: &mut Self::Block,
-        parcel: &mut Parcel,
-    ) -> Self::Brought
-        ensures block { block.new ≡ monitor_rules.edited (meant handed.now parcel.old) block.old }
-        ensures answer { told result parcel.new
-            ≡ monitor_rules.answer (meant handed.now parcel.old) block.old };
+        message_slot: &mut MessageSlot,
+    ) -> Self::Response
+        ensures block { block.new
+            ≡ monitor_rules.edited (abstract_call handed.now message_slot.old) block.old }
+        ensures answer { abstract_answer result message_slot.new
+            ≡ monitor_rules.answer (abstract_call handed.now message_slot.old) block.old };
 
     /// Returns the thread at the head of this side's queue, if it may proceed.
     fn ready(side: Side, block: &Self::Block) -> Option<Tid>
@@ -96,65 +98,65 @@ pub trait Guarded: Sized + Drop {
 /// it puts.
 pub trait WholeGuarded: Guarded + Copy {
     /// Returns the form of this edit that layers pass down, and stores the message that it puts in
-    /// `parcel`.
-    fn hand_on(self, parcel: &mut Parcel) -> Self::Handed
-        ensures { Self.meant result parcel.new ≡ self };
+    /// `message_slot`.
+    fn hand_on(self, message_slot: &mut MessageSlot) -> Self::Request
+        ensures { Self.abstract_call result message_slot.new ≡ self };
 
     /// Returns the whole result, given its passed-back form and the message beside it.
-    fn bring_back(brought: Self::Brought, parcel: &Parcel) -> Self::Out
-        ensures { result ≡ Self.told brought parcel.now };
+    fn bring_back(response: Self::Response, message_slot: &MessageSlot) -> Self::Out
+        ensures { result ≡ Self.abstract_answer response message_slot.now };
 }
 
 impl<G: Guarded> Locked for CvEdit<G> {
-    ghost use Rattle.layer_traits.specs.{Layers.Conditions.cv_rules, Blocks.Payloads.{cv_meant, cv_told}};
+    ghost use Rattle.layer_traits.specs.{Layers.Conditions.cv_rules, Blocks.Payloads.{abstract_cv_edit, abstract_cv_answer}};
 
     type Block = G::Block;
 
-    type Out = CvOut<G::Out>;
+    type Out = CvReply<G::Out>;
 
-    type Handed = CvEdit<G::Handed>;
+    type Request = CvEdit<G::Request>;
 
-    type Brought = CvOut<G::Brought>;
+    type Response = CvReply<G::Response>;
 
     type Release = CvLeave;
 
-    ghost rules = { cv_rules G.monitor_rules };
+    ghost protocol = { cv_rules G.monitor_rules };
 
-    ghost meant = { cv_meant G.meant };
+    ghost abstract_call = { abstract_cv_edit G.abstract_call };
 
-    ghost told = { cv_told G.told };
+    ghost abstract_answer = { abstract_cv_answer G.abstract_answer };
 
-    fn caller(handed: &CvEdit<G::Handed>) -> Tid {
+    fn caller(handed: &CvEdit<G::Request>) -> Tid {
         match handed {
             CvEdit::Edit(edit) => G::caller(edit),
             CvEdit::SignalFront(t, _) => *t,
         }
     }
 
-    fn whole(handed: &CvEdit<G::Handed>, parcel: &Parcel) -> CvEdit<G> {
+    fn whole(handed: &CvEdit<G::Request>, message_slot: &MessageSlot) -> CvEdit<G> {
         match handed {
-            CvEdit::Edit(edit) => CvEdit::Edit(G::whole(edit, parcel)),
+            CvEdit::Edit(edit) => CvEdit::Edit(G::whole(edit, message_slot)),
             CvEdit::SignalFront(t, side) => CvEdit::SignalFront(*t, *side),
         }
     }
 
     #[inline(always)]
-    fn apply_handed(
-        handed: &CvEdit<G::Handed>,
+    fn apply_request(
+        handed: &CvEdit<G::Request>,
         block: &mut G::Block,
-        parcel: &mut Parcel,
-    ) -> CvOut<G::Brought> {
+        message_slot: &mut MessageSlot,
+    ) -> CvReply<G::Response> {
         match handed {
-            CvEdit::Edit(edit) => CvOut::Did(G::apply_handed(edit, block, parcel)),
-            CvEdit::SignalFront(_, side) => CvOut::Signalled(*side, G::ready(*side, block)),
+            CvEdit::Edit(edit) => CvReply::Did(G::apply_request(edit, block, message_slot)),
+            CvEdit::SignalFront(_, side) => CvReply::Signalled(*side, G::ready(*side, block)),
         }
     }
 
-    fn signals(brought: &CvOut<G::Brought>) -> WakeWaiter {
-        match brought {
-            CvOut::Signalled(Side::Receivers, Some(front)) => WakeWaiter::Receiver(*front),
-            CvOut::Signalled(Side::Senders, Some(front)) => WakeWaiter::Sender(*front),
-            CvOut::Signalled(_, None) | CvOut::Did(_) | CvOut::Left | CvOut::Waited(_) => {
+    fn signals(response: &CvReply<G::Response>) -> WakeWaiter {
+        match response {
+            CvReply::Signalled(Side::Receivers, Some(front)) => WakeWaiter::Receiver(*front),
+            CvReply::Signalled(Side::Senders, Some(front)) => WakeWaiter::Sender(*front),
+            CvReply::Signalled(_, None) | CvReply::Did(_) | CvReply::Left | CvReply::Waited(_) => {
                 WakeWaiter::Nobody
             }
         }
@@ -167,35 +169,35 @@ impl<G: Guarded> Locked for CvEdit<G> {
     }
 
     #[inline(always)]
-    fn apply_last(last: CvLeave, _block: &mut G::Block) -> CvOut<G::Brought> {
+    fn apply_last(last: CvLeave, _block: &mut G::Block) -> CvReply<G::Response> {
         match last {
-            CvLeave::Leave(_) => CvOut::Left,
-            CvLeave::Wait(_, side) => CvOut::Waited(side),
+            CvLeave::Leave(_) => CvReply::Left,
+            CvLeave::Wait(_, side) => CvReply::Waited(side),
         }
     }
 
-    fn waits(brought: &CvOut<G::Brought>) -> Option<Side> {
-        match brought {
-            CvOut::Waited(side) => Some(*side),
-            CvOut::Did(_) | CvOut::Signalled(_, _) | CvOut::Left => None,
+    fn waits(response: &CvReply<G::Response>) -> Option<Side> {
+        match response {
+            CvReply::Waited(side) => Some(*side),
+            CvReply::Did(_) | CvReply::Signalled(_, _) | CvReply::Left => None,
         }
     }
 }
 
 impl<G: WholeGuarded> WholeLocked for CvEdit<G> {
-    fn hand_on(self, parcel: &mut Parcel) -> CvEdit<G::Handed> {
+    fn hand_on(self, message_slot: &mut MessageSlot) -> CvEdit<G::Request> {
         match self {
-            CvEdit::Edit(edit) => CvEdit::Edit(edit.hand_on(parcel)),
+            CvEdit::Edit(edit) => CvEdit::Edit(edit.hand_on(message_slot)),
             CvEdit::SignalFront(t, side) => CvEdit::SignalFront(t, side),
         }
     }
 
-    fn bring_back(brought: CvOut<G::Brought>, parcel: &Parcel) -> CvOut<G::Out> {
-        match brought {
-            CvOut::Did(out) => CvOut::Did(G::bring_back(out, parcel)),
-            CvOut::Signalled(side, front) => CvOut::Signalled(side, front),
-            CvOut::Left => CvOut::Left,
-            CvOut::Waited(side) => CvOut::Waited(side),
+    fn bring_back(response: CvReply<G::Response>, message_slot: &MessageSlot) -> CvReply<G::Out> {
+        match response {
+            CvReply::Did(out) => CvReply::Did(G::bring_back(out, message_slot)),
+            CvReply::Signalled(side, front) => CvReply::Signalled(side, front),
+            CvReply::Left => CvReply::Left,
+            CvReply::Waited(side) => CvReply::Waited(side),
         }
     }
 }

@@ -6,15 +6,16 @@ ghost use Rattle.std.specs.Prelude.{◌≡◌, ◌⊎◌, ◌≤◌, [], IsSome,
 ghost use Rattle.layer_traits.specs.Layers.{CvLaw.{Waiting, waiting_at_start, CvPolled, MayCallCond, MustStay, cv_plan, cv_pass_plan}, Conditions.cv_rules};
 ghost use Rattle.layer_traits.specs.Layers.{QLockLaw.{LockAgrees, lock_kernel, slept_for, is_handed}, QLocking.{AreAtRest, lock_after, lock_caller}};
 ghost use Rattle.layer_traits.specs.Layers.{QLocking.{lock_moves, lock_rules}, Queues.{QueueAllowed, buffer_sections, cpu_of_queue_event, event_of, moves_in}};
-ghost use Rattle.layer_traits.specs.{Layers.{Scheds.SchedPolled, SleepLaw.done_if}, Views.Owned.wait_list_under, Blocks.Payloads.{cv_meant, cv_told}};
-ghost use Rattle.layer_traits.specs.Blocks.{Payloads.{lock_meant, lock_told, outcome_told}, QueueBlocks.{StartsWell, homes_in, inner}, QueueRules.AreProper};
-ghost use Rattle.layer_traits.specs.{Blocks.QueueRules.queue_rules, Threads.Places.{AreMoves, pending_by}, Polling.Plans.table_of};
-ghost use Rattle.event_log.specs.{declared.ids.{LockId.TheVariants.{Buffer, Pending}, TheConstants.THREADS}, Sections.sections_in};
+ghost use Rattle.layer_traits.specs.{Layers.{Scheds.SchedPolled, SleepLaw.done_if}, Views.Owned.wait_list_under, Blocks.Payloads.abstract_cv_edit};
+ghost use Rattle.layer_traits.specs.Blocks.{Payloads.{abstract_cv_answer, abstract_lock_call, abstract_lock_answer, abstract_outcome}, QueueBlocks.StartsWell};
+ghost use Rattle.layer_traits.specs.{Blocks.{QueueBlocks.{homes_in, inner}, QueueRules.{AreProper, queue_rules}}, Threads.Places.{AreMoves, pending_by}};
+ghost use Rattle.{layer_traits.specs.Polling.Plans.table_of, event_log.specs.declared.ids.{LockId.TheVariants.{Buffer, Pending}, TheConstants.THREADS}};
+ghost use Rattle.event_log.specs.Sections.{sections_in};
 ghost use Rattle.layer_traits.specs.declared.scheds.SchedCall.TheVariants as sched;
 
-use crate::conditions::{CvEdit, CvLeave, CvOut, Guarded};
+use crate::conditions::{CvEdit, CvLeave, CvReply, Guarded};
 use crate::layers::Law;
-use crate::locked::{QEdit, QOut};
+use crate::locked::{QLockCall, QLockReply};
 use crate::owned_layers::SleeperLaw;
 use crate::qlock_layers::LockStateOf;
 use crate::queue_edits::{QueueAnswer, QueueBlock, QueueEdit};
@@ -48,60 +49,61 @@ pub struct CvLaw<G> {
 }
 
 impl<G: Guarded> Law for CvLaw<G> {
-    type Call = BufferCall<QEdit<CvEdit<G::Handed>, CvLeave>>;
+    type Call = BufferCall<QLockCall<CvEdit<G::Request>, CvLeave>>;
 
-    type Answer = Outcome<QOut<CvOut<G::Brought>>>;
+    type Answer = Outcome<QLockReply<CvReply<G::Response>>>;
 
-    type Told = Outcome<QOut<CvOut<G::Out>>>;
+    type AbstractAnswer = Outcome<QLockReply<CvReply<G::Out>>>;
 
     type Block = QueueBlock<LockStateOf<G::Block>>;
 
-    type Name = QueueEdit<QEdit<CvEdit<G>, CvLeave>>;
+    type Name = QueueEdit<QLockCall<CvEdit<G>, CvLeave>>;
 
-    type Reply = QueueAnswer<Outcome<QOut<CvOut<G::Out>>>>;
+    type Reply = QueueAnswer<Outcome<QLockReply<CvReply<G::Out>>>>;
 
-    type Event = QueueEvent<QEdit<CvEdit<G>, CvLeave>>;
+    type Event = QueueEvent<QLockCall<CvEdit<G>, CvLeave>>;
 
-    type Begun = SchedCall<QEdit<CvEdit<G>, CvLeave>>;
+    type Begun = SchedCall<QLockCall<CvEdit<G>, CvLeave>>;
 
     type State = WaitingOf<G::Out>;
 
     ghost cpu_of_event = { cpu_of_queue_event };
 
-    ghost told = { λ outcome payload. outcome_told (lock_told (cv_told G.told)) outcome payload.parcel };
+    ghost abstract_answer = { λ outcome payload. abstract_outcome (abstract_lock_answer (abstract_cv_answer G.abstract_answer)) outcome payload.message_slot };
 
     ghost allowed = { λ opening. QueueAllowed (lock_kernel (cv_rules G.monitor_rules) opening) };
 
-    ghost IsThere = { λ opening call payload. IsSome (opening (Buffer call.buffer)) };
+    ghost LockExists = { λ opening call payload. IsSome (opening (Buffer call.buffer)) };
 
-    ghost IsLocal = { λ own call payload.
-        IsSome (slept_for own.waits (lock_caller (cv_rules G.monitor_rules) (lock_meant (cv_meant G.meant) call.edit payload.parcel)))
-        ⊎ IsSome (slept_for own.lock.slept (lock_caller (cv_rules G.monitor_rules) (lock_meant (cv_meant G.meant) call.edit payload.parcel))) };
+    ghost IsLocal = { λ local call payload.
+        IsSome (slept_for local.waits (lock_caller (cv_rules G.monitor_rules) (abstract_lock_call (abstract_cv_edit G.abstract_call) call.edit payload.message_slot)))
+        ⊎ IsSome (slept_for local.lock.slept (lock_caller (cv_rules G.monitor_rules) (abstract_lock_call (abstract_cv_edit G.abstract_call) call.edit payload.message_slot))) };
 
-    ghost AreHomes = { λ homes. length homes ≤ THREADS };
+    ghost AreValidHomes = { λ homes. length homes ≤ THREADS };
 
     ghost at_boot = { waiting_at_start };
 
-    ghost Boots = { λ opening seen homes cpu. (seen ≡ []) × (homes_in opening ≡ homes) × IsSome (opening (Pending cpu)) × AreAtRest (inner opening) };
+    ghost Boots = { λ opening history homes cpu. (history ≡ []) × (homes_in opening ≡ homes) × IsSome (opening (Pending cpu)) × AreAtRest (inner opening) };
 
-    ghost MayPoll = { λ opening cpu seen own under_way call payload. MayCallCond G.monitor_rules (lock_kernel (cv_rules G.monitor_rules) opening)
-        cpu seen own under_way call.buffer (lock_meant (cv_meant G.meant) call.edit payload.parcel) };
+    ghost MayPoll = { λ opening cpu history local under_way call payload. MayCallCond G.monitor_rules (lock_kernel (cv_rules G.monitor_rules) opening)
+        cpu history local under_way call.buffer (abstract_lock_call (abstract_cv_edit G.abstract_call) call.edit payload.message_slot) };
 
     ghost LeavesBegun = { λ _ _ _ _ _. Unit {0} };
 
-    ghost Polled = { λ opening ActsFor cpu call payload told old new own own' begun. CvPolled G.monitor_rules (lock_kernel (cv_rules G.monitor_rules) opening)
-        ActsFor cpu call.buffer (lock_meant (cv_meant G.meant) call.edit payload.parcel)
-        (slept_for own.waits (lock_caller (cv_rules G.monitor_rules) (lock_meant (cv_meant G.meant) call.edit payload.parcel)))
-        old new own begun (record { own = own'; answer = told }) };
+    ghost Polled = { λ opening ActsFor cpu call payload abstract_answer old new local local' begun. CvPolled G.monitor_rules
+        (lock_kernel (cv_rules G.monitor_rules) opening)
+        ActsFor cpu call.buffer (abstract_lock_call (abstract_cv_edit G.abstract_call) call.edit payload.message_slot)
+        (slept_for local.waits (lock_caller (cv_rules G.monitor_rules) (abstract_lock_call (abstract_cv_edit G.abstract_call) call.edit payload.message_slot)))
+        old new local begun (record { local = local'; answer = abstract_answer }) };
 
-    ghost IsPrompt = { λ call payload result own own'. result ≡ None
-        → MustStay (lock_caller (cv_rules G.monitor_rules) (lock_meant (cv_meant G.meant) call.edit payload.parcel))
-        call.buffer own own' };
+    ghost IsPrompt = { λ call payload result local local'. result ≡ None
+        → MustStay (lock_caller (cv_rules G.monitor_rules) (abstract_lock_call (abstract_cv_edit G.abstract_call) call.edit payload.message_slot))
+        call.buffer local local' };
 
     ghost table = { table_of (queue_rules (lock_rules (cv_rules G.monitor_rules)) (lock_moves (cv_rules G.monitor_rules))) };
 
-    ghost plan = { λ opening cpu call payload own. cv_plan (lock_moves (cv_rules G.monitor_rules)) (homes_in opening) cpu call.buffer
-        (lock_meant (cv_meant G.meant) call.edit payload.parcel) own };
+    ghost plan = { λ opening cpu call payload local. cv_plan (lock_moves (cv_rules G.monitor_rules)) (homes_in opening) cpu call.buffer
+        (abstract_lock_call (abstract_cv_edit G.abstract_call) call.edit payload.message_slot) local };
 
     ghost events_in = { λ acts. map event_of (sections_in acts) };
 
@@ -111,25 +113,25 @@ impl<G: Guarded> Law for CvLaw<G> {
 
     ghost AreProper = { λ acts. AreProper (sections_in acts) };
 
-    ghost MovesAreLegal = { λ opening seen. AreMoves (homes_in opening) (moves_in (lock_kernel (cv_rules G.monitor_rules) opening) seen) };
+    ghost MovesAreLegal = { λ opening history. AreMoves (homes_in opening) (moves_in (lock_kernel (cv_rules G.monitor_rules) opening) history) };
 
-    ghost Agrees = { λ opening cpu seen own. LockAgrees (cv_rules G.monitor_rules) opening cpu seen own.lock };
+    ghost Agrees = { λ opening cpu history local. LockAgrees (cv_rules G.monitor_rules) opening cpu history local.lock };
 }
 
 impl<G: Guarded> ThreadLaw for CvLaw<G> {
-    ghost threads_of = { λ own. own.lock.sleep.threads };
+    ghost threads_of = { λ local. local.lock.sleep.threads };
 
-    ghost at_once = { λ own. is_handed own.lock.slept own.lock.sleep.threads.current };
+    ghost at_once = { λ local. is_handed local.lock.slept local.lock.sleep.threads.current };
 
     ghost pass_begun = { sched.Pass };
 
-    ghost Passed = { λ opening ActsFor cpu call result old new own own'. SchedPolled (lock_kernel (cv_rules G.monitor_rules) opening) ActsFor cpu
-        (sched.Pass call) (done_if result) old new own own' };
+    ghost Passed = { λ opening ActsFor cpu call result old new local local'. SchedPolled (lock_kernel (cv_rules G.monitor_rules) opening) ActsFor cpu
+        (sched.Pass call) (done_if result) old new local local' };
 
-    ghost KeepsRest = { λ own own'. (own'.lock.sleep.deferred ≡ own.lock.sleep.deferred) × (own'.lock.slept ≡ own.lock.slept)
-        × (own'.waits ≡ own.waits) };
+    ghost KeepsRest = { λ local local'. (local'.lock.sleep.deferred ≡ local.lock.sleep.deferred) × (local'.lock.slept ≡ local.lock.slept)
+        × (local'.waits ≡ local.waits) };
 
-    ghost pass_plan = { λ opening cpu call own. cv_pass_plan (lock_moves (cv_rules G.monitor_rules)) (homes_in opening) cpu call own };
+    ghost pass_plan = { λ opening cpu call local. cv_pass_plan (lock_moves (cv_rules G.monitor_rules)) (homes_in opening) cpu call local };
 }
 
 impl<G: Guarded> SleeperLaw for CvLaw<G> {
@@ -139,9 +141,9 @@ impl<G: Guarded> SleeperLaw for CvLaw<G> {
 
     ghost above = { λ state. state.above };
 
-    ghost block_after = { λ opening seen b. lock_after (cv_rules G.monitor_rules) (inner opening) (Buffer b) (buffer_sections seen) };
+    ghost block_after = { λ opening history b. lock_after (cv_rules G.monitor_rules) (inner opening) (Buffer b) (buffer_sections history) };
 
-    ghost pending_after = { λ opening seen d. pending_by (moves_in (lock_kernel (cv_rules G.monitor_rules) opening) seen) d };
+    ghost pending_after = { λ opening history d. pending_by (moves_in (lock_kernel (cv_rules G.monitor_rules) opening) history) d };
 
     ghost owner_of = { λ state. state.owner };
 

@@ -27,35 +27,36 @@ pub trait SplitEdit: Sized + Drop {
     type Out: Drop;
 
     /// The form in which layers pass an edit down.
-    type Handed: Drop;
+    type Request: Drop;
 
     /// The form in which layers pass a result back up.
-    type Brought: Drop;
+    type Response: Drop;
 
     /// What an edit means: the block that it leaves and its result, as functions of the block that
     /// it finds. After which sections which CPU may do it.
-    ghost rules: { Rules Self Self.Block Self.Out };
+    ghost protocol: { Rules Self Self.Block Self.Out };
 
     /// Abstraction function: the edit that a passed-down form means, with this payload beside it.
-    ghost meant: { Self.Handed → Payload → Self };
+    ghost abstract_call: { Self.Request → Payload → Self };
 
     /// Abstraction function: the result that a passed-back form means, with this payload beside it.
-    ghost told: { Self.Brought → Payload → Self.Out };
+    ghost abstract_answer: { Self.Response → Payload → Self.Out };
 
     /// Returns the edit that `handed` means.
-    fn whole(handed: &Self::Handed, payload: &Payload) -> Self
-        ensures { result ≡ meant handed.now payload.now };
+    fn whole(handed: &Self::Request, payload: &Payload) -> Self
+        ensures { result ≡ abstract_call handed.now payload.now };
 
     /// Performs on `block` the edit that `handed` means. What it returns, with what it leaves in
     /// the payload, means the edit's result. It is given no allocator.
-    fn apply_handed(
-        handed: &Self::Handed,
+    fn apply_request(
+        handed: &Self::Request,
         block: &mut Self::Block,
         payload: &mut Payload,
-    ) -> Self::Brought
-        ensures block { block.new ≡ rules.edited (meant handed.now payload.old) block.old }
-        ensures answer { told result payload.new
-            ≡ rules.answer (meant handed.now payload.old) block.old };
+    ) -> Self::Response
+        ensures block { block.new
+            ≡ protocol.edited (abstract_call handed.now payload.old) block.old }
+        ensures answer { abstract_answer result payload.new
+            ≡ protocol.answer (abstract_call handed.now payload.old) block.old };
 }
 
 /// A pure edit of a lock's block, as one value: it can be copied, holds what it puts, and its
@@ -64,21 +65,21 @@ pub trait Edit: SplitEdit + Copy {
     ghost use Rattle.layer_traits.specs.declared.payloads.Payload.{Payload};
 
     /// Returns the form of this edit that layers pass down, and stores what it puts in the payload.
-    fn hand_on(self, payload: &mut Payload) -> Self::Handed
-        ensures { Self.meant result payload.new ≡ self };
+    fn hand_on(self, payload: &mut Payload) -> Self::Request
+        ensures { Self.abstract_call result payload.new ≡ self };
 
     /// Returns the whole result. What it brings is taken out of the payload.
-    fn bring_back(brought: Self::Brought, payload: &mut Payload) -> Self::Out
-        ensures { result ≡ Self.told brought payload.old };
+    fn bring_back(response: Self::Response, payload: &mut Payload) -> Self::Out
+        ensures { result ≡ Self.abstract_answer response payload.old };
 
     /// Edits `block` and returns the edit's result. It is given no allocator.
     fn apply(self, block: &mut Self::Block) -> Self::Out
-        ensures block { block.new ≡ Self.rules.edited self block.old }
-        ensures answer { result ≡ Self.rules.answer self block.old }
+        ensures block { block.new ≡ Self.protocol.edited self block.old }
+        ensures answer { result ≡ Self.protocol.answer self block.old }
     {
         let mut payload = Payload::new();
         let handed = self.hand_on(&mut payload);
-        let brought = Self::apply_handed(&handed, block, &mut payload);
-        Self::bring_back(brought, &mut payload)
+        let response = Self::apply_request(&handed, block, &mut payload);
+        Self::bring_back(response, &mut payload)
     }
 }

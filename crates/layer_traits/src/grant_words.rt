@@ -32,7 +32,7 @@ pub trait GrantWords {
     ghost opening: { Self → LockId → Option Self.Edit.Block };
 
     /// The events that this holder has observed, newest first.
-    ghost seen: { Self → List (GrantEvent (Mark Self.Edit)) };
+    ghost history: { Self → List (GrantEvent (Mark Self.Edit)) };
 
     /// The CPUs for which the holder acts; this implies that the machine is sound.
     ghost ActsFor: { Self → CpuId → Type 0 };
@@ -42,11 +42,11 @@ pub trait GrantWords {
 
     /// Which machine it is, as numbers; a machine that no caller must recognize needs none. No call
     /// changes it.
-    ghost site: { Self → List ℕ } = { λ _. [] };
+    ghost machine_id: { Self → List ℕ } = { λ _. [] };
 
     /// Returns the mark of a section with this edit, of which `handed` is the passed-down form. A
     /// machine may store the passed-down form, and the edit for clauses only.
-    fn mark(handed: <Self::Edit as SplitEdit>::Handed, edit: Self::Edit) -> Self::Mark
+    fn mark(handed: <Self::Edit as SplitEdit>::Request, edit: Self::Edit) -> Self::Mark
         ensures { edit_in result ≡ edit };
 
     /// Takes a ticket of `lock` for `cpu`: a fetch-and-add of 1 on `next`, whose old value is the
@@ -58,11 +58,12 @@ pub trait GrantWords {
         requires cpu { ActsFor self.old cpu }
         requires lock { IsSome (opening self.old lock) }
         requires room { 0 < room self.old }
-        requires outside { grant_lock_phase cpu (seen self.old) ≡ Idle }
-        ensures adds { Adds (ActsFor self.old) cpu_of_grant (Take cpu lock result) (seen self.old)
-            (seen self.new) }
+        requires outside { grant_lock_phase cpu (history self.old) ≡ Idle }
+        ensures adds { Adds (ActsFor self.old) cpu_of_grant (Take cpu lock result)
+            (history self.old)
+            (history self.new) }
         ensures opening { opening self.new ≡ opening self.old }
-        ensures site { site self.new ≡ site self.old }
+        ensures machine_id { machine_id self.new ≡ machine_id self.old }
         ensures room { room self.old ≤ room self.new + 1 }
         ensures acts { (c : CpuId) → ActsFor self.old c → ActsFor self.new c };
 
@@ -80,17 +81,17 @@ pub trait GrantWords {
         requires cpu { ActsFor self.old cpu }
         requires lock { IsSome (opening self.old lock) }
         requires room { 0 < room self.old }
-        requires waiting { grant_lock_phase cpu (seen self.old) ≡ Waiting lock ticket }
+        requires waiting { grant_lock_phase cpu (history self.old) ≡ Waiting lock ticket }
         ensures adds { (read : ℕ)
-            × Adds (ActsFor self.old) cpu_of_grant (Peek cpu lock ticket read) (seen self.old)
-            (seen self.new) }
+            × Adds (ActsFor self.old) cpu_of_grant (Peek cpu lock ticket read) (history self.old)
+            (history self.new) }
         ensures hits { MatchOption result
-            (grant_lock_phase cpu (seen self.new) ≡ Waiting lock ticket)
-            (λ block. (grant_lock_phase cpu (seen self.new) ≡ Holding lock ticket)
-            × (block_after Self.Edit.rules.edited (opening self.new) lock
-            (grant_sections (seen self.new)) ≡ Some block)) }
+            (grant_lock_phase cpu (history self.new) ≡ Waiting lock ticket)
+            (λ block. (grant_lock_phase cpu (history self.new) ≡ Holding lock ticket)
+            × (block_after Self.Edit.protocol.edited (opening self.new) lock
+            (grant_sections (history self.new)) ≡ Some block)) }
         ensures opening { opening self.new ≡ opening self.old }
-        ensures site { site self.new ≡ site self.old }
+        ensures machine_id { machine_id self.new ≡ machine_id self.old }
         ensures room { room self.old ≤ room self.new + 1 }
         ensures acts { (c : CpuId) → ActsFor self.old c → ActsFor self.new c };
 
@@ -106,14 +107,15 @@ pub trait GrantWords {
         requires cpu { ActsFor self.old cpu }
         requires lock { IsSome (opening self.old lock) }
         requires room { length steps.now ≤ room self.old }
-        requires waiting { grant_lock_phase cpu (seen self.old) ≡ Waiting lock ticket }
+        requires waiting { grant_lock_phase cpu (history self.old) ≡ Waiting lock ticket }
         ensures few { BeginWith cpu result steps.now }
         ensures still { result ≡ 0 → self.new ≡ self.old }
         ensures adds { (read : ℕ)
-            × (seen self.new ≡ replicate result (Peek cpu lock ticket read) ++ seen self.old) }
-        ensures waits { grant_lock_phase cpu (seen self.new) ≡ Waiting lock ticket }
+            × (history self.new
+            ≡ replicate result (Peek cpu lock ticket read) ++ history self.old) }
+        ensures waits { grant_lock_phase cpu (history self.new) ≡ Waiting lock ticket }
         ensures opening { opening self.new ≡ opening self.old }
-        ensures site { site self.new ≡ site self.old }
+        ensures machine_id { machine_id self.new ≡ machine_id self.old }
         ensures room { room self.old ≤ room self.new + result }
         ensures acts { (c : CpuId) → ActsFor self.old c → ActsFor self.new c }
     {
@@ -137,21 +139,21 @@ pub trait GrantWords {
         requires lock { IsSome (opening self.old lock) }
         requires room { 0 < room self.old }
         requires inside { (ticket : ℕ)
-            × (grant_lock_phase cpu (seen self.old) ≡ Holding lock ticket) }
-        requires edited { option_map (Self.Edit.rules.edited (edit_in mark))
-            (block_after Self.Edit.rules.edited (opening self.old) lock
-            (grant_sections (seen self.old))) ≡ Some block }
-        requires allowed { StaysAllowed (Self.Edit.rules.allowed (opening self.old))
-            (grant_sections (seen self.old))
+            × (grant_lock_phase cpu (history self.old) ≡ Holding lock ticket) }
+        requires edited { option_map (Self.Edit.protocol.edited (edit_in mark))
+            (block_after Self.Edit.protocol.edited (opening self.old) lock
+            (grant_sections (history self.old))) ≡ Some block }
+        requires allowed { StaysAllowed (Self.Edit.protocol.allowed (opening self.old))
+            (grant_sections (history self.old))
             (section cpu lock (edit_in mark)) }
         ensures adds { Adds (ActsFor self.old) cpu_of_grant (Give cpu lock (mark_of (edit_in mark)))
-            (seen self.old) (seen self.new) }
+            (history self.old) (history self.new) }
         ensures opening { opening self.new ≡ opening self.old }
-        ensures site { site self.new ≡ site self.old }
+        ensures machine_id { machine_id self.new ≡ machine_id self.old }
         ensures room { room self.old ≤ room self.new + 1 }
         ensures acts { (c : CpuId) → ActsFor self.old c → ActsFor self.new c };
 
     /// Law: what a holder has observed is a legal log of grant words in which each section keeps
     /// the protocol.
-    ghost legal: { (w : Self) (c : CpuId) → ActsFor w c → IsLawful (GrantMayCome (Self.Edit.rules.allowed (opening w))) (seen w) };
+    ghost legal: { (w : Self) (c : CpuId) → ActsFor w c → IsLawful (GrantMayCome (Self.Edit.protocol.allowed (opening w))) (history w) };
 }

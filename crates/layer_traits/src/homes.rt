@@ -16,6 +16,6 @@ pub fn kept_homes(homes: &[CpuId]) -> ArrayVec<CpuId, THREADS>
     ensures { result.items ≡ homes.now }
 {
     let mut kept = ArrayVec::new();
-    let _fits = kept.try_extend_from_slice(homes);
+    let _coupled = kept.try_extend_from_slice(homes);
     kept
 }

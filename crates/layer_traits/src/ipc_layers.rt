@@ -10,7 +10,7 @@ use crate::call_layers::{CallLaw, CallLayer};
 pub struct IpcLaw;
 
 impl CallLaw for IpcLaw {
-    ghost IsThere = { λ caps call. Unit {0} };
+    ghost LockExists = { λ caps call. Unit {0} };
 
     ghost IsCount = { λ caps buffers. length caps ≡ buffers };
 

@@ -4,7 +4,7 @@
 
 ghost use Rattle.std.specs.Prelude.{◌≡◌, ℕ, ◌<◌, ◌≤◌, length, true, false, Bool, List, [], Option, None, Some, OnSome, if◌then◌else◌};
 ghost use Rattle.event_log.specs.{declared.ids.{CpuId.CpuId, LockId.LockId, TheConstants.CPUS}, Actions.{Action, AreLegal, phase}, History.{IsLawful, Grows}};
-ghost use Rattle.layer_traits.specs.{declared.payloads.Payload.Payload, Blocks.Payloads.told_by, Polling.Plans.{Plan, Table, Follows, is_in_section}};
+ghost use Rattle.layer_traits.specs.{declared.payloads.Payload.Payload, Blocks.Payloads.abstract_result, Polling.Plans.{Plan, Table, Follows, is_in_section}};
 ghost use Rattle.layer_traits.specs.Polling.{Framed.Framed, Looks.Tries, Spins.{BeginWith, Spun, Misses}};
 
 use crate::payloads::Payload;
@@ -21,7 +21,7 @@ pub trait Law {
     type Answer: Drop;
 
     /// A call's result.
-    type Told;
+    type AbstractAnswer;
 
     /// What a lock guards.
     type Block;
@@ -45,19 +45,19 @@ pub trait Law {
     ghost cpu_of_event: { Self.Event → CpuId };
 
     /// Abstraction function: the result that a passed-back form means, with this payload beside it.
-    ghost told: { Self.Answer → Payload → Self.Told };
+    ghost abstract_answer: { Self.Answer → Payload → Self.AbstractAnswer };
 
     /// The events that are allowed after this history, from the opening blocks on.
     ghost allowed: { (LockId → Option Self.Block) → List Self.Event → Self.Event → Type 0 };
 
     /// The lock of a call exists.
-    ghost IsThere: { (LockId → Option Self.Block) → Self.Call → Payload → Type 0 };
+    ghost LockExists: { (LockId → Option Self.Block) → Self.Call → Payload → Type 0 };
 
     /// With this private state of the part, the call touches nothing shared.
     ghost IsLocal: { Self.State → Self.Call → Payload → Type 0 };
 
     /// The homes are those of a boot.
-    ghost AreHomes: { List CpuId → Type 0 };
+    ghost AreValidHomes: { List CpuId → Type 0 };
 
     /// A part's private state at boot.
     ghost at_boot: { List CpuId → CpuId → Self.State };
@@ -73,7 +73,7 @@ pub trait Law {
 
     /// What a poll adds to the events, does to the part's private state, leaves pending, and
     /// returns.
-    ghost Polled: { (LockId → Option Self.Block) → (CpuId → Type 0) → CpuId → Self.Call → Payload → Option Self.Told
+    ghost Polled: { (LockId → Option Self.Block) → (CpuId → Type 0) → CpuId → Self.Call → Payload → Option Self.AbstractAnswer
         → List Self.Event → List Self.Event → Self.State → Self.State → Option Self.Begun → Type 0 };
 
     /// What the poll of a whole machine does to the part's private state: it returns a result, or
@@ -84,7 +84,7 @@ pub trait Law {
     ghost table: { Table Self.Name Self.Block Self.Reply };
 
     /// What a poll must do.
-    ghost plan: { (LockId → Option Self.Block) → CpuId → Self.Call → Payload → Self.State → Plan Self.Name Self.Reply Self.State Self.Told };
+    ghost plan: { (LockId → Option Self.Block) → CpuId → Self.Call → Payload → Self.State → Plan Self.Name Self.Reply Self.State Self.AbstractAnswer };
 
     /// The events that these actions are.
     ghost events_in: { List (Action Self.Name) → List Self.Event };
@@ -118,7 +118,7 @@ pub trait Layer<L: Law>: Sized {
     ghost opening: { Self.Machine → LockId → Option L.Block };
 
     /// The events that the holder of the machine has observed, newest first.
-    ghost seen: { Self.Machine → List L.Event };
+    ghost history: { Self.Machine → List L.Event };
 
     /// The CPUs for which the holder of the machine acts; this implies that the machine is sound.
     ghost ActsFor: { Self.Machine → CpuId → Type 0 };
@@ -128,7 +128,7 @@ pub trait Layer<L: Law>: Sized {
 
     /// Which machine it is, as numbers; a machine that no caller must recognize needs none. No poll
     /// changes it.
-    ghost site: { Self.Machine → List ℕ } = { λ _. [] };
+    ghost machine_id: { Self.Machine → List ℕ } = { λ _. [] };
 
     /// No section of this CPU is under way.
     ghost IsOutside: { Self.Machine → CpuId → Type 0 };
@@ -140,7 +140,7 @@ pub trait Layer<L: Law>: Sized {
     ghost cpu_of: { Self → CpuId };
 
     /// The part's private state.
-    ghost own: { Self → L.State };
+    ghost local: { Self → L.State };
 
     /// The call that has begun and has not ended.
     ghost under_way: { Self → Option L.Begun };
@@ -149,7 +149,7 @@ pub trait Layer<L: Law>: Sized {
     ghost is_inside: { Self → Bool };
 
     /// Coupling invariant: the part and the machine agree.
-    ghost Fits: { Self → Self.Machine → Type 0 };
+    ghost Coupled: { Self → Self.Machine → Type 0 };
 
     /// Whether one poll is one action, as in the tower.
     ghost IsStepwise: { Type 0 };
@@ -166,20 +166,20 @@ pub trait Layer<L: Law>: Sized {
     ///
     /// Requires: the homes are those of a boot: for a layer with threads, at most `THREADS`.
     fn part(cpu: CpuId, homes: &[CpuId], buffers: u8) -> Self
-        requires { L.AreHomes homes.now }
+        requires { L.AreValidHomes homes.now }
         ensures cpu { cpu_of result ≡ cpu }
-        ensures own { own result ≡ L.at_boot homes.now cpu }
+        ensures local { local result ≡ L.at_boot homes.now cpu }
         ensures call { under_way result ≡ None }
-        ensures fits { (m : Self.Machine) → ActsFor m cpu → IsOutside m cpu
-            → L.Boots (opening m) (seen m) homes.now cpu → Fits result m };
+        ensures coupled { (m : Self.Machine) → ActsFor m cpu → IsOutside m cpu
+            → L.Boots (opening m) (history m) homes.now cpu → Coupled result m };
 
     /// Returns whether the CPU waits at a lock or holds one.
     fn is_busy(&self) -> bool
         ensures { result ≡ is_inside self.now };
 
     /// Returns the part's private state, without a copy.
-    fn own_here(&self) -> &L::State
-        ensures { result.now ≡ own self.now };
+    fn local_here(&self) -> &L::State
+        ensures { result.now ≡ local self.now };
 
     /// Polls the lock again for a section that waits at it, and returns whether it did. Such a poll
     /// ends no call, so that it needs no call and has no result. If it returns `false` nothing has
@@ -187,15 +187,16 @@ pub trait Layer<L: Law>: Sized {
     ///
     /// Requires: part and machine agree, and there is room for an event.
     fn look(&mut self, m: &mut Self::Machine) -> bool
-        requires fits { Fits self.old m.old }
+        requires coupled { Coupled self.old m.old }
         requires room { 0 < room m.old }
         ensures still { result ≡ false → (self.new ≡ self.old) × (m.new ≡ m.old) }
         ensures waits { result ≡ true → is_inside self.old ≡ true }
-        ensures own { own self.new ≡ own self.old }
+        ensures local { local self.new ≡ local self.old }
         ensures call { under_way self.new ≡ under_way self.old }
         ensures inside { is_inside self.new ≡ is_inside self.old }
-        ensures seen { Grows (ActsFor m.old) L.cpu_of_event (seen m.old) (seen m.new) }
-        ensures framed { Framed Fits cpu_of opening site room ActsFor MayHold self.old self.new
+        ensures history { Grows (ActsFor m.old) L.cpu_of_event (history m.old) (history m.new) }
+        ensures framed { Framed Coupled cpu_of opening machine_id room ActsFor MayHold self.old
+            self.new
             m.old m.new }
         ensures tries { IsStepwise → result ≡ true
             → Tries (ActsFor m.old) (cpu_of self.old) (acts m.old) (acts m.new) };
@@ -208,11 +209,12 @@ pub trait Layer<L: Law>: Sized {
     /// Requires: part and machine agree, and there is room for as many events as there are steps.
     #[inline(always)]
     fn spin(&self, m: &mut Self::Machine, steps: &[CpuId]) -> usize
-        requires fits { Fits self.now m.old }
+        requires coupled { Coupled self.now m.old }
         requires room { length steps.now ≤ room m.old }
         ensures few { BeginWith (cpu_of self.now) result steps.now }
         ensures still { result ≡ 0 → m.new ≡ m.old }
-        ensures spun { Spun Fits opening site seen room ActsFor MayHold result m.old m.new }
+        ensures spun { Spun Coupled opening machine_id history room ActsFor MayHold result m.old
+            m.new }
         ensures outside { (c : CpuId) → IsOutside m.old c → IsOutside m.new c }
         ensures tries { IsStepwise → Misses (cpu_of self.now) result (acts m.old) (acts m.new) }
     {
@@ -234,62 +236,68 @@ pub trait Layer<L: Law>: Sized {
         call: L::Call,
         payload: &mut Payload,
     ) -> Option<L::Answer>
-        requires fits { Fits self.old m.old }
-        requires there { L.IsThere (opening m.old) call payload.old }
+        requires coupled { Coupled self.old m.old }
+        requires there { L.LockExists (opening m.old) call payload.old }
         requires room { 0 < room m.old }
-        requires call { L.MayPoll (opening m.old) (cpu_of self.old) (seen m.old) (own self.old)
+        requires call { L.MayPoll (opening m.old) (cpu_of self.old) (history m.old) (local self.old)
             (under_way self.old) call payload.old }
         ensures call { L.LeavesBegun (cpu_of self.old) call payload.old result
             (under_way self.new) }
         ensures prompt { IsWhole
-            → L.IsPrompt call payload.old result (own self.old) (own self.new) }
-        ensures seen { L.Polled (opening m.old) (ActsFor m.old) (cpu_of self.old) call payload.old
-            (told_by L.told result payload.new)
-            (seen m.old) (seen m.new) (own self.old) (own self.new) (under_way self.new) }
-        ensures still { L.IsLocal (own self.old) call payload.old → m.new ≡ m.old }
-        ensures framed { Framed Fits cpu_of opening site room ActsFor MayHold self.old self.new
+            → L.IsPrompt call payload.old result (local self.old) (local self.new) }
+        ensures history { L.Polled (opening m.old) (ActsFor m.old) (cpu_of self.old) call
+            payload.old
+            (abstract_result L.abstract_answer result payload.new)
+            (history m.old) (history m.new) (local self.old) (local self.new) (under_way self.new) }
+        ensures still { L.IsLocal (local self.old) call payload.old → m.new ≡ m.old }
+        ensures framed { Framed Coupled cpu_of opening machine_id room ActsFor MayHold self.old
+            self.new
             m.old m.new }
         ensures outside { OnSome result
-            ((L.IsLocal (own self.old) call payload.old → ⊥) → IsOutside m.new (cpu_of self.old)) }
+            ((L.IsLocal (local self.old) call payload.old → ⊥)
+            → IsOutside m.new (cpu_of self.old)) }
         ensures follows { IsStepwise
             → Follows (ActsFor m.old) L.table (opening m.old) (cpu_of self.old)
-            (L.plan (opening m.old) (cpu_of self.old) call payload.old (own self.old))
+            (L.plan (opening m.old) (cpu_of self.old) call payload.old (local self.old))
             (acts m.old) (acts m.new)
-            (record { own = own self.new; answer = told_by L.told result payload.new }) };
+            (record {
+              local = local self.new;
+              answer = abstract_result L.abstract_answer result payload.new;
+            }) };
 
     /// Law: a part that agrees with a machine is of a CPU for which the machine's holder acts.
-    ghost own_cpu: { (p : Self) (m : Self.Machine) → Fits p m → ActsFor m (cpu_of p) };
+    ghost own_cpu: { (p : Self) (m : Self.Machine) → Coupled p m → ActsFor m (cpu_of p) };
 
     /// Law: each event in the history was allowed.
-    ghost lawful: { (m : Self.Machine) (c : CpuId) → ActsFor m c → IsLawful (L.allowed (opening m)) (seen m) };
+    ghost lawful: { (m : Self.Machine) (c : CpuId) → ActsFor m c → IsLawful (L.allowed (opening m)) (history m) };
 
     /// Law: each event in the history is of a CPU that a machine may have.
-    ghost known: { (m : Self.Machine) (c : CpuId) → ActsFor m c → IsLawful (λ past e. (L.cpu_of_event e).0 < CPUS) (seen m) };
+    ghost known: { (m : Self.Machine) (c : CpuId) → ActsFor m c → IsLawful (λ past e. (L.cpu_of_event e).0 < CPUS) (history m) };
 
     /// Law: each move of a thread starts at its place.
-    ghost moves_legal: { (m : Self.Machine) (c : CpuId) → ActsFor m c → L.MovesAreLegal (opening m) (seen m) };
+    ghost moves_legal: { (m : Self.Machine) (c : CpuId) → ActsFor m c → L.MovesAreLegal (opening m) (history m) };
 
     /// Law: the machine opened as one that may start.
     ghost opens: { (m : Self.Machine) (c : CpuId) → ActsFor m c → L.Starts (opening m) };
 
     /// Law: a part's private state agrees with the events.
-    ghost stands: { (p : Self) (m : Self.Machine) → Fits p m → L.Agrees (opening m) (cpu_of p) (seen m) (own p) };
+    ghost stands: { (p : Self) (m : Self.Machine) → Coupled p m → L.Agrees (opening m) (cpu_of p) (history m) (local p) };
 
     /// Law: what a pending call says of whether a section is under way.
     ghost inside: { (p : Self) → L.Inside (under_way p) (is_inside p) };
 
     /// Law: if no call is pending, the CPU neither waits at a lock nor holds one.
-    ghost idle: { (p : Self) (m : Self.Machine) → Fits p m → under_way p ≡ None → is_inside p ≡ false };
+    ghost idle: { (p : Self) (m : Self.Machine) → Coupled p m → under_way p ≡ None → is_inside p ≡ false };
 
     /// Law: the actions are legal.
     ghost legal: { (m : Self.Machine) (c : CpuId) → ActsFor m c → AreLegal (acts m) };
 
     /// Law: if a poll is one action, the events of the history are those of the actions.
-    ghost seen_is: { IsStepwise → (m : Self.Machine) → seen m ≡ L.events_in (acts m) };
+    ghost seen_is: { IsStepwise → (m : Self.Machine) → history m ≡ L.events_in (acts m) };
 
     /// Law: if a poll is one action, each section of the actions edits a block of its kind.
     ghost proper: { IsStepwise → (m : Self.Machine) (c : CpuId) → ActsFor m c → L.AreProper (acts m) };
 
     /// Law: if a poll is one action, a CPU is inside exactly while it waits at a lock or holds one.
-    ghost busy: { (p : Self) (m : Self.Machine) → Fits p m → IsStepwise → is_inside p ≡ is_in_section (phase (cpu_of p) (acts m)) };
+    ghost busy: { (p : Self) (m : Self.Machine) → Coupled p m → IsStepwise → is_inside p ≡ is_in_section (phase (cpu_of p) (acts m)) };
 }

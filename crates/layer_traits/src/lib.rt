@@ -5,8 +5,8 @@
 //! over locks:
 //!
 //! ```text
-//! fn poll(&mut self, m: &mut L::Machine, call: QueueCall<E::Handed>, payload: &mut Payload)
-//!     -> Option<BareQueueAnswer<E::Brought>>
+//! fn poll(&mut self, m: &mut L::Machine, call: QueueCall<E::Request>, payload: &mut Payload)
+//!     -> Option<BareQueueAnswer<E::Response>>
 //! {
 //!     self.lower.poll(m, section_of(call), payload)
 //! }
@@ -54,12 +54,12 @@ mod words;
 
 pub use block_box::BlockBox;
 pub use buffer_blocks::BufferBlock;
-pub use buffer_edits::{BareBufferEdit, BareBufferOut, BufferEdit, BufferOut};
+pub use buffer_edits::{BareBufferEdit, BareBufferReply, BufferEdit, BufferReply};
 pub use buffer_layers::{BufferLaw, BufferLayer};
 pub use call_layers::{CallLaw, CallLayer, message_of};
 pub use call_states::{CallState, Stage, no_calls};
 pub use calls::{Call, Effect, Place, PollRun, Reply, ReplyKind};
-pub use conditions::{CvEdit, CvLeave, CvOut, Guarded, WholeGuarded};
+pub use conditions::{CvEdit, CvLeave, CvReply, Guarded, WholeGuarded};
 pub use cv_layers::{CvLaw, CvLayer, WaitingOf};
 pub use edits::{Edit, Mark, SplitEdit};
 pub use grant_words::GrantWords;
@@ -67,7 +67,7 @@ pub use homes::kept_homes;
 pub use ipc_layers::{IpcLaw, IpcLayer};
 pub use laws::{effects_are_run, one_place};
 pub use layers::{Law, Layer};
-pub use locked::{Locked, QEdit, QOut, Side, WakeWaiter, WholeLocked};
+pub use locked::{Locked, QLockCall, QLockReply, Side, WakeWaiter, WholeLocked};
 pub use locks::{LockCall, LockLaw, LockLayer, SectionOf};
 pub use moves::{Moves, WaitList};
 pub use own_threads::OwnThreads;
@@ -78,7 +78,7 @@ pub use owned_layers::{BlockLaw, OwnedLayer, OwnedThreadLayer, SleeperLaw};
 pub use owned_locks::OwnedLocks;
 pub use owned_words::OwnedWords;
 pub use passes::Pass;
-pub use payloads::{Ghost, Parcel, Payload};
+pub use payloads::{Ghost, MessageSlot, Payload};
 pub use qlock_layers::{LockStateOf, LockingOf, QLockLaw, QLockLayer};
 pub use queue_edits::{BareQueueAnswer, QueueAnswer, QueueBlock, QueueEdit};
 pub use queues::{QueueCall, QueueEvent, QueueLaw, QueueLayer};

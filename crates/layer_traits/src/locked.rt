@@ -4,7 +4,7 @@
 
 ghost use Rattle.std.specs.Prelude.{◌≡◌};
 
-use crate::payloads::Parcel;
+use crate::payloads::MessageSlot;
 use event_log::Tid;
 
 /// On which side of a buffer a thread waits.
@@ -29,7 +29,7 @@ pub enum WakeWaiter {
 
 /// A call on a queuing lock.
 #[derive(Clone, Copy)]
-pub enum QEdit<F, R> {
+pub enum QLockCall<F, R> {
     /// This thread asks for the lock. It owns the lock at once if no thread does, and otherwise
     /// sleeps until the owner hands the lock over.
     Acquire(Tid),
@@ -41,7 +41,7 @@ pub enum QEdit<F, R> {
 
 /// The result of a call on a queuing lock.
 #[derive(Clone, Copy)]
-pub enum QOut<O> {
+pub enum QLockReply<O> {
     /// The caller owns the lock.
     Acquired,
     /// The caller sleeps for the lock.
@@ -55,7 +55,7 @@ pub enum QOut<O> {
 /// An edit inside a queuing lock. It determines which thread it signals; a last edit determines on
 /// which side its caller waits, if it does.
 pub trait Locked: Sized + Drop {
-    ghost use Rattle.layer_traits.specs.{declared.payloads.Parcel.Parcel, Layers.QLocking.LockRules};
+    ghost use Rattle.layer_traits.specs.{declared.payloads.MessageSlot.MessageSlot, Layers.QLocking.LockRules};
 
     /// What the lock guards besides its owner and its waiting lists.
     type Block: Drop;
@@ -64,10 +64,10 @@ pub trait Locked: Sized + Drop {
     type Out: Drop;
 
     /// The form in which layers pass an edit down.
-    type Handed: Drop;
+    type Request: Drop;
 
     /// The form in which layers pass a result back up.
-    type Brought: Drop;
+    type Response: Drop;
 
     /// The last edit of an owner, with which it releases the lock.
     type Release: Copy + Drop;
@@ -75,62 +75,66 @@ pub trait Locked: Sized + Drop {
     /// What the edits mean: their callers, the blocks that they leave and their results. According
     /// to the result, which thread an edit signals, and on which side the caller of a last edit
     /// waits. After which sections which CPU may do a call.
-    ghost rules: { LockRules Self Self.Release Self.Block Self.Out };
+    ghost protocol: { LockRules Self Self.Release Self.Block Self.Out };
 
     /// Returns the calling thread.
-    fn caller(handed: &Self::Handed) -> Tid
-        ensures { (parcel : Parcel) → result ≡ rules.caller (meant handed.now parcel) };
+    fn caller(handed: &Self::Request) -> Tid
+        ensures { (message_slot : MessageSlot)
+            → result ≡ protocol.caller (abstract_call handed.now message_slot) };
 
     /// Abstraction function: the edit that a passed-down form means, with this message beside it.
-    ghost meant: { Self.Handed → Parcel → Self };
+    ghost abstract_call: { Self.Request → MessageSlot → Self };
 
     /// Abstraction function: the result that a passed-back form means, with this message beside it.
-    ghost told: { Self.Brought → Parcel → Self.Out };
+    ghost abstract_answer: { Self.Response → MessageSlot → Self.Out };
 
     /// Returns the edit that `handed` means.
-    fn whole(handed: &Self::Handed, parcel: &Parcel) -> Self
-        ensures { result ≡ meant handed.now parcel.now };
+    fn whole(handed: &Self::Request, message_slot: &MessageSlot) -> Self
+        ensures { result ≡ abstract_call handed.now message_slot.now };
 
     /// Performs on `block` the edit that `handed` means. What it returns, with the message that it
     /// leaves, means the edit's result. It is given no allocator.
-    fn apply_handed(
-        handed: &Self::Handed,
+    fn apply_request(
+        handed: &Self::Request,
         block: &mut Self::Block,
-        parcel: &mut Parcel,
-    ) -> Self::Brought
-        ensures block { block.new ≡ rules.edited (meant handed.now parcel.old) block.old }
-        ensures answer { told result parcel.new
-            ≡ rules.answer (meant handed.now parcel.old) block.old };
+        message_slot: &mut MessageSlot,
+    ) -> Self::Response
+        ensures block { block.new
+            ≡ protocol.edited (abstract_call handed.now message_slot.old) block.old }
+        ensures answer { abstract_answer result message_slot.new
+            ≡ protocol.answer (abstract_call handed.now message_slot.old) block.old };
 
     /// Returns which thread the edit with this result signals.
-    fn signals(brought: &Self::Brought) -> WakeWaiter
-        ensures { (parcel : Parcel) → result ≡ rules.signals (told brought.now parcel) };
+    fn signals(response: &Self::Response) -> WakeWaiter
+        ensures { (message_slot : MessageSlot)
+            → result ≡ protocol.signals (abstract_answer response.now message_slot) };
 
     /// Returns the thread that calls with this last edit.
     fn last_caller(last: Self::Release) -> Tid
-        ensures { result ≡ rules.last_caller last };
+        ensures { result ≡ protocol.last_caller last };
 
     /// Does the last edit of an owner on `block`. With any message beside it, what it returns means
     /// the edit's result. It is given no allocator.
-    fn apply_last(last: Self::Release, block: &mut Self::Block) -> Self::Brought
-        ensures block { block.new ≡ rules.last_edited last block.old }
-        ensures answer { (parcel : Parcel)
-            → told result parcel ≡ rules.last_answer last block.old };
+    fn apply_last(last: Self::Release, block: &mut Self::Block) -> Self::Response
+        ensures block { block.new ≡ protocol.last_edited last block.old }
+        ensures answer { (message_slot : MessageSlot)
+            → abstract_answer result message_slot ≡ protocol.last_answer last block.old };
 
     /// Returns on which side the caller of the last edit with this result waits; `None` if it
     /// continues.
-    fn waits(brought: &Self::Brought) -> Option<Side>
-        ensures { (parcel : Parcel) → result ≡ rules.waits (told brought.now parcel) };
+    fn waits(response: &Self::Response) -> Option<Side>
+        ensures { (message_slot : MessageSlot)
+            → result ≡ protocol.waits (abstract_answer response.now message_slot) };
 }
 
 /// An edit inside a queuing lock, as one value: it can be copied, and holds what it puts.
 pub trait WholeLocked: Locked + Copy {
     /// Returns the form of this edit that layers pass down, and stores the message that it puts in
-    /// `parcel`.
-    fn hand_on(self, parcel: &mut Parcel) -> Self::Handed
-        ensures { Self.meant result parcel.new ≡ self };
+    /// `message_slot`.
+    fn hand_on(self, message_slot: &mut MessageSlot) -> Self::Request
+        ensures { Self.abstract_call result message_slot.new ≡ self };
 
     /// Returns the whole result, given its passed-back form and the message beside it.
-    fn bring_back(brought: Self::Brought, parcel: &Parcel) -> Self::Out
-        ensures { result ≡ Self.told brought parcel.now };
+    fn bring_back(response: Self::Response, message_slot: &MessageSlot) -> Self::Out
+        ensures { result ≡ Self.abstract_answer response message_slot.now };
 }

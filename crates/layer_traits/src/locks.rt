@@ -39,11 +39,11 @@ pub struct LockLaw<E> {
 }
 
 impl<E: SplitEdit> Law for LockLaw<E> {
-    type Call = LockCall<E::Handed>;
+    type Call = LockCall<E::Request>;
 
-    type Answer = E::Brought;
+    type Answer = E::Response;
 
-    type Told = E::Out;
+    type AbstractAnswer = E::Out;
 
     type Block = E::Block;
 
@@ -59,33 +59,33 @@ impl<E: SplitEdit> Law for LockLaw<E> {
 
     ghost cpu_of_event = { cpu_of_section };
 
-    ghost told = { E.told };
+    ghost abstract_answer = { E.abstract_answer };
 
-    ghost allowed = { E.rules.allowed };
+    ghost allowed = { E.protocol.allowed };
 
-    ghost IsThere = { λ opening call payload. IsSome (opening call.lock) };
+    ghost LockExists = { λ opening call payload. IsSome (opening call.lock) };
 
     ghost IsLocal = { λ _ _ _. ⊥ };
 
-    ghost AreHomes = { λ _. Unit {0} };
+    ghost AreValidHomes = { λ _. Unit {0} };
 
     ghost at_boot = { λ homes cpu. tt };
 
     ghost Boots = { λ _ _ _ _. Unit {0} };
 
-    ghost MayPoll = { λ opening cpu seen own under_way call payload. MayPoll (E.rules.allowed opening) seen under_way
-        (section cpu call.lock (E.meant call.edit payload)) };
+    ghost MayPoll = { λ opening cpu history local under_way call payload. MayPoll (E.protocol.allowed opening) history under_way
+        (section cpu call.lock (E.abstract_call call.edit payload)) };
 
-    ghost LeavesBegun = { λ cpu call payload result begun. begun ≡ until_answered result (section cpu call.lock (E.meant call.edit payload)) };
+    ghost LeavesBegun = { λ cpu call payload result begun. begun ≡ until_answered result (section cpu call.lock (E.abstract_call call.edit payload)) };
 
-    ghost Polled = { λ opening ActsFor cpu call payload told old new own own' begun. PolledAtLock E.rules opening ActsFor
-        (section cpu call.lock (E.meant call.edit payload)) told old new };
+    ghost Polled = { λ opening ActsFor cpu call payload abstract_answer old new local local' begun. PolledAtLock E.protocol opening ActsFor
+        (section cpu call.lock (E.abstract_call call.edit payload)) abstract_answer old new };
 
     ghost IsPrompt = { λ _ _ result _ _. IsSome result };
 
-    ghost table = { table_of E.rules };
+    ghost table = { table_of E.protocol };
 
-    ghost plan = { λ opening cpu call payload own. section_plan call.lock (E.meant call.edit payload) };
+    ghost plan = { λ opening cpu call payload local. section_plan call.lock (E.abstract_call call.edit payload) };
 
     ghost events_in = { sections_in };
 

@@ -27,13 +27,15 @@ pub trait Moves: SplitEdit {
     ghost moves: { MoveRules Self Self.Out };
 
     /// Returns the waiting list in which the caller went to sleep; `None` if it stays awake.
-    fn slept(brought: &Self::Brought) -> Option<WaitList>
-        ensures { (payload : Payload) → result ≡ moves.slept (Self.told brought.now payload) };
+    fn slept(response: &Self::Response) -> Option<WaitList>
+        ensures { (payload : Payload)
+            → result ≡ moves.slept (Self.abstract_answer response.now payload) };
 
     /// Returns the thread that was woken; `None` if none was.
-    fn woke(brought: &Self::Brought) -> Option<Tid>
-        ensures { (payload : Payload) → result ≡ moves.woke (Self.told brought.now payload) };
+    fn woke(response: &Self::Response) -> Option<Tid>
+        ensures { (payload : Payload)
+            → result ≡ moves.woke (Self.abstract_answer response.now payload) };
 
     /// Law: a thread that an allowed edit wakes is asleep.
-    ghost wakes_sleepers: { WakesSleepers Self.rules moves };
+    ghost wakes_sleepers: { WakesSleepers Self.protocol moves };
 }

@@ -62,7 +62,7 @@ pub trait Owned: CallLayer<IpcLaw> {
     ) -> Result<Self::Machine, NoMemory>
         requires { AreOpenable cpus caps.now homes.now }
         ensures opened { IfOk result (λ m.
-            Opened (caps_in (Self.opening m)) (homes_in (Self.opening m)) (Self.seen m)
+            Opened (caps_in (Self.opening m)) (homes_in (Self.opening m)) (Self.history m)
             (Self.moves m) (Self.room m) caps.now homes.now room) }
         ensures fresh { IfOk result (λ m. (c : CpuId) → c.0 < cpus → Self.IsFresh m homes.now c) }
         ensures acts { IfOk result (λ m. (c : CpuId) → c.0 < CPUS → Self.ActsFor m c) }
@@ -110,34 +110,34 @@ pub trait Owned: CallLayer<IpcLaw> {
     ///
     /// Requires: part and machine agree, and `t` is a thread of the machine.
     fn place_at(&self, m: &Self::Machine, t: Tid) -> Option<Place>
-        requires fits { Self.Fits self.now m.now }
+        requires coupled { Self.Coupled self.now m.now }
         requires thread { t.0 < length (homes_in (Self.opening m.now)) }
         ensures observed { (x : Place) → result ≡ Some x
-            → IsOwnPlace (Self.cpu_of self.now) (threads_in (Self.own self.now)) t x
+            → IsOwnPlace (Self.cpu_of self.now) (threads_in (Self.local self.now)) t x
             ⊎ (queue_place (where_is (homes_in (Self.opening m.now)) (Self.moves m.now) t)
             ≡ Some x) }
         ensures silent { result ≡ None → IsSilent self.now m.now t };
 
     /// Law: each effect in the history is of a CPU that a machine may have.
-    ghost known: { (m : Self.Machine) (c : CpuId) → Self.ActsFor m c → AllByRecursion (λ e. e.cpu.0 < CPUS) (Self.seen m) };
+    ghost known: { (m : Self.Machine) (c : CpuId) → Self.ActsFor m c → AllByRecursion (λ e. e.cpu.0 < CPUS) (Self.history m) };
 
     /// Law: the items of a buffer that the machine or a part reports are those that the effects
     /// leave in it.
     ghost items: { (m : Self.Machine) (c : CpuId) (b : BufId) → Self.ActsFor m c → b.0 < length (caps_in (Self.opening m))
-        → IsObservedAs (λ (p : Self). Self.Fits p m) (λ p. Self.cpu_of p) (Self.MayHold m)
+        → IsObservedAs (λ (p : Self). Self.Coupled p m) (λ p. Self.cpu_of p) (Self.MayHold m)
         (λ p. items_here p b) (items_in m b)
-        (items_of (contents_of (caps_in (Self.opening m)) (Self.seen m)) b.0) };
+        (items_of (contents_of (caps_in (Self.opening m)) (Self.history m)) b.0) };
 
     /// Law: a buffer is closed, as the machine or a part reports it, exactly if the effects say so.
     ghost closed: { (m : Self.Machine) (c : CpuId) (b : BufId) → Self.ActsFor m c → b.0 < length (caps_in (Self.opening m))
-        → IsObservedAs (λ (p : Self). Self.Fits p m) (λ p. Self.cpu_of p) (Self.MayHold m)
+        → IsObservedAs (λ (p : Self). Self.Coupled p m) (λ p. Self.cpu_of p) (Self.MayHold m)
         (λ p. closed_here p b) (closed_in m b)
-        (is_closed (Self.seen m) b.0) };
+        (is_closed (Self.history m) b.0) };
 
     /// Law: the owner of a buffer's lock that the machine or a part reports is the one that its
     /// last section left.
     ghost owners: { (m : Self.Machine) (c : CpuId) (b : BufId) → Self.ActsFor m c → b.0 < length (caps_in (Self.opening m))
-        → IsObservedAs (λ (p : Self). Self.Fits p m) (λ p. Self.cpu_of p) (Self.MayHold m)
+        → IsObservedAs (λ (p : Self). Self.Coupled p m) (λ p. Self.cpu_of p) (Self.MayHold m)
         (λ p. owner_here p b) (owner_in m b)
         (owner m b) };
 
@@ -149,13 +149,13 @@ pub trait Owned: CallLayer<IpcLaw> {
     /// Law: if a poll is one action, the sections of the actions determine a buffer's items, its
     /// capacity, and whether it is closed.
     ghost items_are: { Self.IsStepwise → (m : Self.Machine) (c : CpuId) (b : BufId) → Self.ActsFor m c → b.0 < length (caps_in (Self.opening m))
-        → ItemsAre (Self.opening m) (Self.acts m) b (items_of (contents_of (caps_in (Self.opening m)) (Self.seen m)) b.0)
-        (slice_index (caps_in (Self.opening m)) b.0) (is_closed (Self.seen m) b.0) };
+        → ItemsAre (Self.opening m) (Self.acts m) b (items_of (contents_of (caps_in (Self.opening m)) (Self.history m)) b.0)
+        (slice_index (caps_in (Self.opening m)) b.0) (is_closed (Self.history m) b.0) };
 
     /// Law: some CPU can report the place of each thread. That CPU is the thread's home, has the
     /// thread in its hand, or may hold a lock.
-    ghost place: { (p : Self) (m : Self.Machine) (t : Tid) → Self.Fits p m → t.0 < length (homes_in (Self.opening m))
-        → ReadsPlace (λ (q : Self). Self.Fits q m) (λ q. Self.cpu_of q) (Self.MayHold m) (λ q. IsSilent q m t)
+    ghost place: { (p : Self) (m : Self.Machine) (t : Tid) → Self.Coupled p m → t.0 < length (homes_in (Self.opening m))
+        → ReadsPlace (λ (q : Self). Self.Coupled q m) (λ q. Self.cpu_of q) (Self.MayHold m) (λ q. IsSilent q m t)
         (home_of (homes_in (Self.opening m)) t) (where_is (homes_in (Self.opening m)) (Self.moves m) t) };
 
     /// Law: if a poll is one action, a CPU that may hold a lock waits at a lock or holds one.

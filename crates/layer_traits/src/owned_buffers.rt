@@ -115,25 +115,25 @@ pub trait OwnedBuffers: CallLayer<BufferLaw> {
         ensures { result ≡ option_map (λ queue. is_in t queue) (queue_with self.now d) };
 
     /// Law: each effect in the history is of a CPU that a machine may have.
-    ghost known: { (m : Self.Machine) (c : CpuId) → Self.ActsFor m c → AllByRecursion (λ e. e.cpu.0 < CPUS) (Self.seen m) };
+    ghost known: { (m : Self.Machine) (c : CpuId) → Self.ActsFor m c → AllByRecursion (λ e. e.cpu.0 < CPUS) (Self.history m) };
 
     /// Law: the items of a buffer that the machine or a part reports are those that the effects
     /// leave in it.
     ghost items: { (m : Self.Machine) (c : CpuId) (b : BufId) → Self.ActsFor m c → b.0 < length (caps_in (Self.opening m))
-        → IsObservedAs (λ (p : Self). Self.Fits p m) (λ p. Self.cpu_of p) (Self.MayHold m)
+        → IsObservedAs (λ (p : Self). Self.Coupled p m) (λ p. Self.cpu_of p) (Self.MayHold m)
         (λ p. items_with p b) (items_at m b)
-        (items_of (contents_of (caps_in (Self.opening m)) (Self.seen m)) b.0) };
+        (items_of (contents_of (caps_in (Self.opening m)) (Self.history m)) b.0) };
 
     /// Law: a buffer is closed, as the machine or a part reports it, exactly if the effects say so.
     ghost closed: { (m : Self.Machine) (c : CpuId) (b : BufId) → Self.ActsFor m c → b.0 < length (caps_in (Self.opening m))
-        → IsObservedAs (λ (p : Self). Self.Fits p m) (λ p. Self.cpu_of p) (Self.MayHold m)
+        → IsObservedAs (λ (p : Self). Self.Coupled p m) (λ p. Self.cpu_of p) (Self.MayHold m)
         (λ p. closed_with p b) (closed_at m b)
-        (is_closed (Self.seen m) b.0) };
+        (is_closed (Self.history m) b.0) };
 
     /// Law: the owner of a buffer's lock that the machine or a part reports is the one that its
     /// last section left.
     ghost owners: { (m : Self.Machine) (c : CpuId) (b : BufId) → Self.ActsFor m c → b.0 < length (caps_in (Self.opening m))
-        → IsObservedAs (λ (p : Self). Self.Fits p m) (λ p. Self.cpu_of p) (Self.MayHold m)
+        → IsObservedAs (λ (p : Self). Self.Coupled p m) (λ p. Self.cpu_of p) (Self.MayHold m)
         (λ p. owner_with p b) (owner_at m b)
         (owner m b) };
 
@@ -145,20 +145,20 @@ pub trait OwnedBuffers: CallLayer<BufferLaw> {
     /// Law: if a poll is one action, the sections of the actions determine a buffer's items, its
     /// capacity, and whether it is closed.
     ghost items_are: { Self.IsStepwise → (m : Self.Machine) (c : CpuId) (b : BufId) → Self.ActsFor m c → b.0 < length (caps_in (Self.opening m))
-        → ItemsAre (Self.opening m) (Self.acts m) b (items_of (contents_of (caps_in (Self.opening m)) (Self.seen m)) b.0)
-        (slice_index (caps_in (Self.opening m)) b.0) (is_closed (Self.seen m) b.0) };
+        → ItemsAre (Self.opening m) (Self.acts m) b (items_of (contents_of (caps_in (Self.opening m)) (Self.history m)) b.0)
+        (slice_index (caps_in (Self.opening m)) b.0) (is_closed (Self.history m) b.0) };
 
     /// Law: the waiting lists of a buffer that the machine or a part reports are those that its
     /// last section left.
     ghost waiters_law: { (m : Self.Machine) (c : CpuId) (b : BufId) → Self.ActsFor m c → b.0 < length (caps_in (Self.opening m))
-        → IsObservedAs (λ (p : Self). Self.Fits p m) (λ p. Self.cpu_of p) (Self.MayHold m)
+        → IsObservedAs (λ (p : Self). Self.Coupled p m) (λ p. Self.cpu_of p) (Self.MayHold m)
         (λ p. wait_lists_with p b) (wait_lists_at m b)
         (Self.wait_lists m b) };
 
     /// Law: the threads of a pending queue that the machine or a part reports are those that the
     /// moves leave in it.
     ghost queues: { (m : Self.Machine) (c d : CpuId) → Self.ActsFor m c → IsSome (Self.opening m (Pending d))
-        → IsObservedAs (λ (p : Self). Self.Fits p m) (λ p. Self.cpu_of p) (Self.MayHold m)
+        → IsObservedAs (λ (p : Self). Self.Coupled p m) (λ p. Self.cpu_of p) (Self.MayHold m)
         (λ p. queue_with p d) (queue_at m d)
         (pending_by (Self.moves m) d) };
 

@@ -13,7 +13,7 @@ use std::alloc::Global;
 /// the machine.
 pub trait OwnedGrantWords: GrantWords {
     ghost use Rattle.event_log.specs.{declared.ids.{CpuId.CpuId, LockId.LockId, TheConstants.CPUS}, Sections.block_after};
-    ghost use Rattle.layer_traits.specs.Protocols.{OneLock.{AreDistinct, opened}, GrantProtocol.{SomeoneHasIt, grant_sections}};
+    ghost use Rattle.layer_traits.specs.Protocols.{OneLock.{AreDistinct, opened}, GrantProtocol.{IsHeldBySome, grant_sections}};
 
     /// The block of a lock, if it is in the machine.
     ghost block_at: { Self → LockId → Option Self.Edit.Block };
@@ -30,7 +30,7 @@ pub trait OwnedGrantWords: GrantWords {
         room: usize,
     ) -> Result<Self, NoMemory>
         requires distinct { AreDistinct blocks.items }
-        ensures seen { IfOk result (λ w. Self.seen w ≡ []) }
+        ensures history { IfOk result (λ w. Self.history w ≡ []) }
         ensures opening { IfOk result (λ w. Self.opening w ≡ opened blocks.items) }
         ensures room { IfOk result (λ w. Self.room w ≡ room) }
         ensures acts { IfOk result (λ w. (c : CpuId) → c.0 < CPUS → Self.ActsFor w c) };
@@ -46,6 +46,6 @@ pub trait OwnedGrantWords: GrantWords {
     /// Law: a block that is not in the machine is with a CPU inside its lock. One that is in the
     /// machine is what the sections make of it.
     ghost blocks: { (w : Self) (c : CpuId) (lock : LockId) → Self.ActsFor w c → IsSome (Self.opening w lock)
-        → MatchOption (block_at w lock) (SomeoneHasIt lock (Self.seen w))
-        (λ block. block_after Self.Edit.rules.edited (Self.opening w) lock (grant_sections (Self.seen w)) ≡ Some block) };
+        → MatchOption (block_at w lock) (IsHeldBySome lock (Self.history w))
+        (λ block. block_after Self.Edit.protocol.edited (Self.opening w) lock (grant_sections (Self.history w)) ≡ Some block) };
 }

@@ -100,15 +100,15 @@ pub trait OwnedLayer<L: BlockLaw>: Layer<L> {
 
     /// Law: what the machine or a part reports of a buffer is what the sections leave in it.
     ghost shown: { (m : Self.Machine) (c : CpuId) (b : BufId) → Self.ActsFor m c → IsSome (Self.opening m (Buffer b))
-        → IsObserved (λ (p : Self). Self.Fits p m) (λ p. Self.cpu_of p) (Self.MayHold m)
+        → IsObserved (λ (p : Self). Self.Coupled p m) (λ p. Self.cpu_of p) (Self.MayHold m)
         (λ p. block_with p b) (block_at m b)
-        (L.block_after (Self.opening m) (Self.seen m) b) };
+        (L.block_after (Self.opening m) (Self.history m) b) };
 
     /// Law: what the machine or a part reports of a pending queue is what the moves leave in it.
     ghost queues: { (m : Self.Machine) (c d : CpuId) → Self.ActsFor m c → IsSome (Self.opening m (Pending d))
-        → IsObserved (λ (p : Self). Self.Fits p m) (λ p. Self.cpu_of p) (Self.MayHold m)
+        → IsObserved (λ (p : Self). Self.Coupled p m) (λ p. Self.cpu_of p) (Self.MayHold m)
         (λ p. queue_with p d) (queue_at m d)
-        (Some (L.pending_after (Self.opening m) (Self.seen m) d)) };
+        (Some (L.pending_after (Self.opening m) (Self.history m) d)) };
 
     /// Law: if a poll is one action, a CPU that may hold a lock waits at a lock or holds one.
     ghost holding: { Self.IsStepwise → (m : Self.Machine) (c : CpuId) → Self.MayHold m c → is_in_section (phase c (Self.acts m)) ≡ true };
@@ -183,15 +183,15 @@ pub trait OwnedThreadLayer<L: SleeperLaw>: ThreadLayer<L> {
 
     /// Law: what the machine or a part reports of a buffer is what the sections leave in it.
     ghost shown: { (m : Self.Machine) (c : CpuId) (b : BufId) → Self.ActsFor m c → IsSome (Self.opening m (Buffer b))
-        → IsObserved (λ (p : Self). Self.Fits p m) (λ p. Self.cpu_of p) (Self.MayHold m)
+        → IsObserved (λ (p : Self). Self.Coupled p m) (λ p. Self.cpu_of p) (Self.MayHold m)
         (λ p. block_with p b) (block_at m b)
-        (L.block_after (Self.opening m) (Self.seen m) b) };
+        (L.block_after (Self.opening m) (Self.history m) b) };
 
     /// Law: what the machine or a part reports of a pending queue is what the moves leave in it.
     ghost queues: { (m : Self.Machine) (c d : CpuId) → Self.ActsFor m c → IsSome (Self.opening m (Pending d))
-        → IsObserved (λ (p : Self). Self.Fits p m) (λ p. Self.cpu_of p) (Self.MayHold m)
+        → IsObserved (λ (p : Self). Self.Coupled p m) (λ p. Self.cpu_of p) (Self.MayHold m)
         (λ p. queue_with p d) (queue_at m d)
-        (Some (L.pending_after (Self.opening m) (Self.seen m) d)) };
+        (Some (L.pending_after (Self.opening m) (Self.history m) d)) };
 
     /// Law: if a poll is one action, a CPU that may hold a lock waits at a lock or holds one.
     ghost holding: { Self.IsStepwise → (m : Self.Machine) (c : CpuId) → Self.MayHold m c → is_in_section (phase c (Self.acts m)) ≡ true };

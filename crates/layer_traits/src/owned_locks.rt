@@ -34,7 +34,7 @@ pub trait OwnedLocks<E: SplitEdit>: Layer<LockLaw<E>> {
         room: usize,
     ) -> Result<Self::Machine, NoMemory>
         requires distinct { AreDistinct blocks.items }
-        ensures seen { IfOk result (λ m. Self.seen m ≡ []) }
+        ensures history { IfOk result (λ m. Self.history m ≡ []) }
         ensures opening { IfOk result (λ m. Self.opening m ≡ opened blocks.items) }
         ensures room { IfOk result (λ m. Self.room m ≡ room) }
         ensures acts { IfOk result (λ m. (c : CpuId) → c.0 < CPUS → Self.ActsFor m c) }
@@ -56,9 +56,9 @@ pub trait OwnedLocks<E: SplitEdit>: Layer<LockLaw<E>> {
 
     /// Law: what the machine or a part reports of a block is what the sections make of it.
     ghost shown: { (m : Self.Machine) (c : CpuId) (lock : LockId) → Self.ActsFor m c → IsSome (Self.opening m lock)
-        → IsObserved (λ (p : Self). Self.Fits p m) (λ p. Self.cpu_of p) (Self.MayHold m)
+        → IsObserved (λ (p : Self). Self.Coupled p m) (λ p. Self.cpu_of p) (Self.MayHold m)
         (λ p. block_with p lock) (block_at m lock)
-        (block_after E.rules.edited (Self.opening m) lock (Self.seen m)) };
+        (block_after E.protocol.edited (Self.opening m) lock (Self.history m)) };
 
     /// Law: if a poll is one action, a CPU that may hold a lock waits at a lock or holds one.
     ghost holding: { Self.IsStepwise → (m : Self.Machine) (c : CpuId) → Self.MayHold m c → is_in_section (phase c (Self.acts m)) ≡ true };

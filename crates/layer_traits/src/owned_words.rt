@@ -30,7 +30,7 @@ pub trait OwnedWords: Words {
         room: usize,
     ) -> Result<Self, NoMemory>
         requires distinct { AreDistinct blocks.items }
-        ensures seen { IfOk result (λ w. Self.seen w ≡ []) }
+        ensures history { IfOk result (λ w. Self.history w ≡ []) }
         ensures opening { IfOk result (λ w. Self.opening w ≡ opened blocks.items) }
         ensures room { IfOk result (λ w. Self.room w ≡ room) }
         ensures acts { IfOk result (λ w. (c : CpuId) → c.0 < CPUS → Self.ActsFor w c) };
@@ -46,6 +46,6 @@ pub trait OwnedWords: Words {
     /// Law: a block that is not in the machine is with a CPU inside its lock. One that is in the
     /// machine is what the sections make of it.
     ghost blocks: { (w : Self) (c : CpuId) (lock : LockId) → Self.ActsFor w c → IsSome (Self.opening w lock)
-        → MatchOption (block_at w lock) (SomeoneInside lock (Self.seen w))
-        (λ block. block_after Self.Edit.rules.edited (Self.opening w) lock (sections (Self.seen w)) ≡ Some block) };
+        → MatchOption (block_at w lock) (SomeoneInside lock (Self.history w))
+        (λ block. block_after Self.Edit.protocol.edited (Self.opening w) lock (sections (Self.history w)) ≡ Some block) };
 }

@@ -39,7 +39,7 @@ impl<T> Ghost<T> {
 /// What an edit of a buffer puts, and what its result brings. It is beside the edit and the result,
 /// which are small and are passed by value.
 #[derive(Clone, Copy)]
-pub struct Parcel {
+pub struct MessageSlot {
     /// The message that an edit puts, or that its result brings.
     pub message: Msg,
     /// The first number of a result.
@@ -48,12 +48,12 @@ pub struct Parcel {
     pub second: u64,
 }
 
-impl Parcel {
+impl MessageSlot {
     /// Returns a parcel with no message, and zeros.
-    pub fn new() -> Parcel
+    pub fn new() -> MessageSlot
         ensures { result ≡ record { message = no_message; first = 0; second = 0 } }
     {
-        Parcel {
+        MessageSlot {
             message: Msg::none(),
             first: 0,
             second: 0,
@@ -66,7 +66,7 @@ impl Parcel {
 #[derive(Drop)]
 pub struct Payload {
     /// What an edit puts, or its result brings.
-    pub parcel: Parcel,
+    pub message_slot: MessageSlot,
     /// The threads that were taken from a pending queue.
     pub taken: ThreadList,
 }
@@ -74,11 +74,12 @@ pub struct Payload {
 impl Payload {
     /// Returns an empty payload.
     pub fn new() -> Payload
-        ensures parcel { result.parcel ≡ record { message = no_message; first = 0; second = 0 } }
+        ensures message_slot { result.message_slot
+            ≡ record { message = no_message; first = 0; second = 0 } }
         ensures taken { result.taken ≡ [] }
     {
         Payload {
-            parcel: Parcel::new(),
+            message_slot: MessageSlot::new(),
             taken: ThreadQueue::new().take(),
         }
     }
@@ -87,7 +88,7 @@ impl Payload {
     pub fn take_threads(&mut self) -> ThreadList
         ensures taken { result ≡ self.old.taken }
         ensures none { self.new.taken ≡ [] }
-        ensures parcel { self.new.parcel ≡ self.old.parcel }
+        ensures message_slot { self.new.message_slot ≡ self.old.message_slot }
     {
         mem::replace(&mut self.taken, ThreadQueue::new().take())
     }

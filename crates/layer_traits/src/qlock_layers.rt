@@ -6,14 +6,14 @@ ghost use Rattle.std.specs.Prelude.{◌≡◌, ◌≤◌, [], IsSome, None, leng
 ghost use Rattle.layer_traits.specs.Layers.{QLocking.{LockState, AreAtRest, lock_after, lock_caller, lock_moves, lock_rules}, QLockLaw.Locking};
 ghost use Rattle.layer_traits.specs.Layers.QLockLaw.{locking_at_start, LockAgrees, LockPolled, MayCallLock, MustWait, lock_kernel, lock_plan, slept_for};
 ghost use Rattle.layer_traits.specs.Layers.{QLockLaw.{is_handed, lock_pass_plan}, Queues.{QueueAllowed, buffer_sections, cpu_of_queue_event, event_of}};
-ghost use Rattle.layer_traits.specs.{Layers.{Queues.moves_in, Scheds.SchedPolled, SleepLaw.done_if}, Views.Owned.wait_list_under, Blocks.Payloads.lock_meant};
-ghost use Rattle.layer_traits.specs.Blocks.{Payloads.{lock_told, outcome_told}, QueueBlocks.{StartsWell, homes_in, inner}, QueueRules.{AreProper, queue_rules}};
-ghost use Rattle.{layer_traits.specs.{Threads.Places.{AreMoves, pending_by}, Polling.Plans.table_of}, event_log.specs.declared.ids.LockId.TheVariants.Buffer};
-ghost use Rattle.event_log.specs.{declared.ids.{LockId.TheVariants.Pending, TheConstants.THREADS}, Sections.sections_in};
+ghost use Rattle.layer_traits.specs.{Layers.{Queues.moves_in, Scheds.SchedPolled, SleepLaw.done_if}, Views.Owned.wait_list_under};
+ghost use Rattle.layer_traits.specs.Blocks.{Payloads.{abstract_lock_call, abstract_lock_answer, abstract_outcome}, QueueBlocks.{StartsWell, homes_in, inner}};
+ghost use Rattle.layer_traits.specs.{Blocks.QueueRules.{AreProper, queue_rules}, Threads.Places.{AreMoves, pending_by}, Polling.Plans.table_of};
+ghost use Rattle.event_log.specs.{declared.ids.{LockId.TheVariants.{Buffer, Pending}, TheConstants.THREADS}, Sections.sections_in};
 ghost use Rattle.layer_traits.specs.declared.scheds.SchedCall.TheVariants as sched;
 
 use crate::layers::Law;
-use crate::locked::{Locked, QEdit, QOut};
+use crate::locked::{Locked, QLockCall, QLockReply};
 use crate::owned_layers::SleeperLaw;
 use crate::queue_edits::{QueueAnswer, QueueBlock, QueueEdit};
 use crate::queues::QueueEvent;
@@ -57,56 +57,58 @@ pub struct QLockLaw<F> {
 }
 
 impl<F: Locked> Law for QLockLaw<F> {
-    type Call = BufferCall<QEdit<F::Handed, F::Release>>;
+    type Call = BufferCall<QLockCall<F::Request, F::Release>>;
 
-    type Answer = Outcome<QOut<F::Brought>>;
+    type Answer = Outcome<QLockReply<F::Response>>;
 
-    type Told = Outcome<QOut<F::Out>>;
+    type AbstractAnswer = Outcome<QLockReply<F::Out>>;
 
     type Block = QueueBlock<LockStateOf<F::Block>>;
 
-    type Name = QueueEdit<QEdit<F, F::Release>>;
+    type Name = QueueEdit<QLockCall<F, F::Release>>;
 
-    type Reply = QueueAnswer<Outcome<QOut<F::Out>>>;
+    type Reply = QueueAnswer<Outcome<QLockReply<F::Out>>>;
 
-    type Event = QueueEvent<QEdit<F, F::Release>>;
+    type Event = QueueEvent<QLockCall<F, F::Release>>;
 
-    type Begun = SchedCall<QEdit<F, F::Release>>;
+    type Begun = SchedCall<QLockCall<F, F::Release>>;
 
     type State = LockingOf<F::Out>;
 
     ghost cpu_of_event = { cpu_of_queue_event };
 
-    ghost told = { λ outcome payload. outcome_told (lock_told F.told) outcome payload.parcel };
+    ghost abstract_answer = { λ outcome payload. abstract_outcome (abstract_lock_answer F.abstract_answer) outcome payload.message_slot };
 
-    ghost allowed = { λ opening. QueueAllowed (lock_kernel F.rules opening) };
+    ghost allowed = { λ opening. QueueAllowed (lock_kernel F.protocol opening) };
 
-    ghost IsThere = { λ opening call payload. IsSome (opening (Buffer call.buffer)) };
+    ghost LockExists = { λ opening call payload. IsSome (opening (Buffer call.buffer)) };
 
-    ghost IsLocal = { λ own call payload. IsSome (slept_for own.slept (lock_caller F.rules (lock_meant F.meant call.edit payload.parcel))) };
+    ghost IsLocal = { λ local call payload. IsSome
+        (slept_for local.slept (lock_caller F.protocol (abstract_lock_call F.abstract_call call.edit payload.message_slot))) };
 
-    ghost AreHomes = { λ homes. length homes ≤ THREADS };
+    ghost AreValidHomes = { λ homes. length homes ≤ THREADS };
 
     ghost at_boot = { locking_at_start };
 
-    ghost Boots = { λ opening seen homes cpu. (seen ≡ []) × (homes_in opening ≡ homes) × IsSome (opening (Pending cpu)) × AreAtRest (inner opening) };
+    ghost Boots = { λ opening history homes cpu. (history ≡ []) × (homes_in opening ≡ homes) × IsSome (opening (Pending cpu)) × AreAtRest (inner opening) };
 
-    ghost MayPoll = { λ opening cpu seen own under_way call payload. MayCallLock F.rules (lock_kernel F.rules opening) cpu seen own under_way
-        call.buffer (lock_meant F.meant call.edit payload.parcel) };
+    ghost MayPoll = { λ opening cpu history local under_way call payload. MayCallLock F.protocol (lock_kernel F.protocol opening) cpu history local under_way
+        call.buffer (abstract_lock_call F.abstract_call call.edit payload.message_slot) };
 
     ghost LeavesBegun = { λ _ _ _ _ _. Unit {0} };
 
-    ghost Polled = { λ opening ActsFor cpu call payload told old new own own' begun. LockPolled F.rules (lock_kernel F.rules opening) ActsFor cpu
-        call.buffer (lock_meant F.meant call.edit payload.parcel) (slept_for own.slept (lock_caller F.rules (lock_meant F.meant call.edit payload.parcel)))
-        old new own begun (record { own = own'; answer = told }) };
+    ghost Polled = { λ opening ActsFor cpu call payload abstract_answer old new local local' begun. LockPolled F.protocol (lock_kernel F.protocol opening)
+        ActsFor cpu
+        call.buffer (abstract_lock_call F.abstract_call call.edit payload.message_slot) (slept_for local.slept (lock_caller F.protocol (abstract_lock_call F.abstract_call call.edit payload.message_slot)))
+        old new local begun (record { local = local'; answer = abstract_answer }) };
 
-    ghost IsPrompt = { λ call payload result own own'. result ≡ None
-        → MustWait (lock_caller F.rules (lock_meant F.meant call.edit payload.parcel)) call.buffer own own' };
+    ghost IsPrompt = { λ call payload result local local'. result ≡ None
+        → MustWait (lock_caller F.protocol (abstract_lock_call F.abstract_call call.edit payload.message_slot)) call.buffer local local' };
 
-    ghost table = { table_of (queue_rules (lock_rules F.rules) (lock_moves F.rules)) };
+    ghost table = { table_of (queue_rules (lock_rules F.protocol) (lock_moves F.protocol)) };
 
-    ghost plan = { λ opening cpu call payload own. lock_plan (lock_moves F.rules) (homes_in opening) cpu call.buffer
-        (lock_meant F.meant call.edit payload.parcel) own };
+    ghost plan = { λ opening cpu call payload local. lock_plan (lock_moves F.protocol) (homes_in opening) cpu call.buffer
+        (abstract_lock_call F.abstract_call call.edit payload.message_slot) local };
 
     ghost events_in = { λ acts. map event_of (sections_in acts) };
 
@@ -116,24 +118,24 @@ impl<F: Locked> Law for QLockLaw<F> {
 
     ghost AreProper = { λ acts. AreProper (sections_in acts) };
 
-    ghost MovesAreLegal = { λ opening seen. AreMoves (homes_in opening) (moves_in (lock_kernel F.rules opening) seen) };
+    ghost MovesAreLegal = { λ opening history. AreMoves (homes_in opening) (moves_in (lock_kernel F.protocol opening) history) };
 
-    ghost Agrees = { LockAgrees F.rules };
+    ghost Agrees = { LockAgrees F.protocol };
 }
 
 impl<F: Locked> ThreadLaw for QLockLaw<F> {
-    ghost threads_of = { λ own. own.sleep.threads };
+    ghost threads_of = { λ local. local.sleep.threads };
 
-    ghost at_once = { λ own. is_handed own.slept own.sleep.threads.current };
+    ghost at_once = { λ local. is_handed local.slept local.sleep.threads.current };
 
     ghost pass_begun = { sched.Pass };
 
-    ghost Passed = { λ opening ActsFor cpu call result old new own own'. SchedPolled (lock_kernel F.rules opening) ActsFor cpu (sched.Pass call)
-        (done_if result) old new own own' };
+    ghost Passed = { λ opening ActsFor cpu call result old new local local'. SchedPolled (lock_kernel F.protocol opening) ActsFor cpu (sched.Pass call)
+        (done_if result) old new local local' };
 
-    ghost KeepsRest = { λ own own'. (own'.sleep.deferred ≡ own.sleep.deferred) × (own'.slept ≡ own.slept) };
+    ghost KeepsRest = { λ local local'. (local'.sleep.deferred ≡ local.sleep.deferred) × (local'.slept ≡ local.slept) };
 
-    ghost pass_plan = { λ opening cpu call own. lock_pass_plan (lock_moves F.rules) (homes_in opening) cpu call own };
+    ghost pass_plan = { λ opening cpu call local. lock_pass_plan (lock_moves F.protocol) (homes_in opening) cpu call local };
 }
 
 impl<F: Locked> SleeperLaw for QLockLaw<F> {
@@ -143,9 +145,9 @@ impl<F: Locked> SleeperLaw for QLockLaw<F> {
 
     ghost above = { λ state. state.above };
 
-    ghost block_after = { λ opening seen b. lock_after F.rules (inner opening) (Buffer b) (buffer_sections seen) };
+    ghost block_after = { λ opening history b. lock_after F.protocol (inner opening) (Buffer b) (buffer_sections history) };
 
-    ghost pending_after = { λ opening seen d. pending_by (moves_in (lock_kernel F.rules opening) seen) d };
+    ghost pending_after = { λ opening history d. pending_by (moves_in (lock_kernel F.protocol opening) history) d };
 
     ghost owner_of = { λ state. state.owner };
 

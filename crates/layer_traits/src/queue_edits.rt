@@ -57,23 +57,23 @@ pub enum QueueBlock<B> {
 }
 
 impl<E: Moves> SplitEdit for QueueEdit<E> {
-    ghost use Rattle.layer_traits.specs.Blocks.{QueueRules.queue_rules, Payloads.{queue_meant, queue_told}};
+    ghost use Rattle.layer_traits.specs.Blocks.{QueueRules.queue_rules, Payloads.{abstract_queue_edit, abstract_queue_answer}};
 
     type Block = QueueBlock<E::Block>;
 
     type Out = QueueAnswer<E::Out>;
 
-    type Handed = QueueEdit<E::Handed>;
+    type Request = QueueEdit<E::Request>;
 
-    type Brought = BareQueueAnswer<E::Brought>;
+    type Response = BareQueueAnswer<E::Response>;
 
-    ghost rules = { queue_rules E.rules E.moves };
+    ghost protocol = { queue_rules E.protocol E.moves };
 
-    ghost meant = { queue_meant E.meant };
+    ghost abstract_call = { abstract_queue_edit E.abstract_call };
 
-    ghost told = { queue_told E.told };
+    ghost abstract_answer = { abstract_queue_answer E.abstract_answer };
 
-    fn whole(handed: &QueueEdit<E::Handed>, payload: &Payload) -> QueueEdit<E> {
+    fn whole(handed: &QueueEdit<E::Request>, payload: &Payload) -> QueueEdit<E> {
         match handed {
             QueueEdit::Push(t) => QueueEdit::Push(*t),
             QueueEdit::TakeAll => QueueEdit::TakeAll,
@@ -82,11 +82,11 @@ impl<E: Moves> SplitEdit for QueueEdit<E> {
     }
 
     #[inline(always)]
-    fn apply_handed(
-        handed: &QueueEdit<E::Handed>,
+    fn apply_request(
+        handed: &QueueEdit<E::Request>,
         block: &mut QueueBlock<E::Block>,
         payload: &mut Payload,
-    ) -> BareQueueAnswer<E::Brought> {
+    ) -> BareQueueAnswer<E::Response> {
         match handed {
             QueueEdit::Push(t) => {
                 if let QueueBlock::Queue(queue, _) = block {
@@ -114,7 +114,7 @@ impl<E: Moves> SplitEdit for QueueEdit<E> {
 }
 
 impl<E: Moves + Edit> Edit for QueueEdit<E> {
-    fn hand_on(self, payload: &mut Payload) -> QueueEdit<E::Handed> {
+    fn hand_on(self, payload: &mut Payload) -> QueueEdit<E::Request> {
         match self {
             QueueEdit::Push(t) => QueueEdit::Push(t),
             QueueEdit::TakeAll => QueueEdit::TakeAll,
@@ -123,10 +123,10 @@ impl<E: Moves + Edit> Edit for QueueEdit<E> {
     }
 
     fn bring_back(
-        brought: BareQueueAnswer<E::Brought>,
+        response: BareQueueAnswer<E::Response>,
         payload: &mut Payload,
     ) -> QueueAnswer<E::Out> {
-        match brought {
+        match response {
             BareQueueAnswer::Done => QueueAnswer::Done,
             BareQueueAnswer::Taken => QueueAnswer::Taken(payload.take_threads()),
             BareQueueAnswer::Answer(out) => QueueAnswer::Answer(E::bring_back(out, payload)),

@@ -3,10 +3,11 @@
 //! No call is given an allocator, and none waits.
 
 ghost use Rattle.std.specs.Prelude.{◌≡◌, IsSome, is_some, map};
-ghost use Rattle.{event_log.specs.{declared.ids.LockId.TheVariants.Buffer, Sections.{block_after, sections_in}}, layer_traits.specs.Blocks.Payloads.call_meant};
-ghost use Rattle.layer_traits.specs.Blocks.{Payloads.queue_told, QueueBlocks.{StartsWell, inner}, QueueRules.{AreProper, queue_rules}};
-ghost use Rattle.layer_traits.specs.{Threads.Places.pending_by, Polling.{Plans.table_of, Polls.until_answered}, Layers.Queues.{MayQueue, QueueAllowed}};
-ghost use Rattle.layer_traits.specs.Layers.Queues.{QueuePolled, buffer_sections, cpu_of_queue_event, event, event_of, kernel, lock_of, moves_in, queue_plan};
+ghost use Rattle.event_log.specs.{declared.ids.LockId.TheVariants.Buffer, Sections.{block_after, sections_in}};
+ghost use Rattle.layer_traits.specs.Blocks.{Payloads.{abstract_queue_call, abstract_queue_answer}, QueueBlocks.{StartsWell, inner}, QueueRules.AreProper};
+ghost use Rattle.layer_traits.specs.{Blocks.QueueRules.queue_rules, Threads.Places.pending_by, Polling.{Plans.table_of, Polls.until_answered}};
+ghost use Rattle.layer_traits.specs.Layers.Queues.{MayQueue, QueueAllowed, QueuePolled, buffer_sections, cpu_of_queue_event, event, event_of, kernel, lock_of};
+ghost use Rattle.layer_traits.specs.Layers.Queues.{moves_in, queue_plan};
 
 use crate::layers::{Law, Layer};
 use crate::moves::Moves;
@@ -43,11 +44,11 @@ pub struct QueueLaw<E> {
 }
 
 impl<E: Moves> Law for QueueLaw<E> {
-    type Call = QueueCall<E::Handed>;
+    type Call = QueueCall<E::Request>;
 
-    type Answer = BareQueueAnswer<E::Brought>;
+    type Answer = BareQueueAnswer<E::Response>;
 
-    type Told = QueueAnswer<E::Out>;
+    type AbstractAnswer = QueueAnswer<E::Out>;
 
     type Block = QueueBlock<E::Block>;
 
@@ -63,33 +64,33 @@ impl<E: Moves> Law for QueueLaw<E> {
 
     ghost cpu_of_event = { cpu_of_queue_event };
 
-    ghost told = { queue_told E.told };
+    ghost abstract_answer = { abstract_queue_answer E.abstract_answer };
 
-    ghost allowed = { λ opening. QueueAllowed (kernel E.rules E.moves opening) };
+    ghost allowed = { λ opening. QueueAllowed (kernel E.protocol E.moves opening) };
 
-    ghost IsThere = { λ opening call payload. IsSome (opening (lock_of call)) };
+    ghost LockExists = { λ opening call payload. IsSome (opening (lock_of call)) };
 
     ghost IsLocal = { λ _ _ _. ⊥ };
 
-    ghost AreHomes = { λ _. Unit {0} };
+    ghost AreValidHomes = { λ _. Unit {0} };
 
     ghost at_boot = { λ homes cpu. tt };
 
     ghost Boots = { λ _ _ _ _. Unit {0} };
 
-    ghost MayPoll = { λ opening cpu seen own under_way call payload. MayQueue (QueueAllowed (kernel E.rules E.moves opening)) seen under_way
-        (event cpu (call_meant E.meant call payload)) };
+    ghost MayPoll = { λ opening cpu history local under_way call payload. MayQueue (QueueAllowed (kernel E.protocol E.moves opening)) history under_way
+        (event cpu (abstract_queue_call E.abstract_call call payload)) };
 
-    ghost LeavesBegun = { λ cpu call payload result begun. begun ≡ until_answered result (event cpu (call_meant E.meant call payload)) };
+    ghost LeavesBegun = { λ cpu call payload result begun. begun ≡ until_answered result (event cpu (abstract_queue_call E.abstract_call call payload)) };
 
-    ghost Polled = { λ opening ActsFor cpu call payload told old new own own' begun. QueuePolled (kernel E.rules E.moves opening) ActsFor
-        (event cpu (call_meant E.meant call payload)) told old new };
+    ghost Polled = { λ opening ActsFor cpu call payload abstract_answer old new local local' begun. QueuePolled (kernel E.protocol E.moves opening) ActsFor
+        (event cpu (abstract_queue_call E.abstract_call call payload)) abstract_answer old new };
 
     ghost IsPrompt = { λ _ _ result _ _. IsSome result };
 
-    ghost table = { table_of (queue_rules E.rules E.moves) };
+    ghost table = { table_of (queue_rules E.protocol E.moves) };
 
-    ghost plan = { λ opening cpu call payload own. queue_plan (call_meant E.meant call payload) };
+    ghost plan = { λ opening cpu call payload local. queue_plan (abstract_queue_call E.abstract_call call payload) };
 
     ghost events_in = { λ acts. map event_of (sections_in acts) };
 
@@ -111,9 +112,9 @@ impl<E: Moves> BlockLaw for QueueLaw<E> {
 
     ghost above = { λ block. block };
 
-    ghost block_after = { λ opening seen b. block_after E.rules.edited (inner opening) (Buffer b) (buffer_sections seen) };
+    ghost block_after = { λ opening history b. block_after E.protocol.edited (inner opening) (Buffer b) (buffer_sections history) };
 
-    ghost pending_after = { λ opening seen d. pending_by (moves_in (kernel E.rules E.moves opening) seen) d };
+    ghost pending_after = { λ opening history d. pending_by (moves_in (kernel E.protocol E.moves opening) history) d };
 }
 
 /// One CPU's part of a layer of shared queues. A poll does at most one atomic action of the call.

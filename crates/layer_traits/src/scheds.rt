@@ -1,8 +1,8 @@
 //! The layer of schedulers. No call is given an allocator or waits.
 
 ghost use Rattle.std.specs.Prelude.{◌≡◌, ◌≢◌, ◌≤◌, true, false, length, [], IsSome, is_some, map};
-ghost use Rattle.layer_traits.specs.{Threads.Places.{at_boot, pending_by, Stands}, Blocks.{Payloads.{sched_meant, sched_told}, QueueBlocks.StartsWell}};
-ghost use Rattle.layer_traits.specs.{Blocks.{QueueBlocks.{homes_in, inner}, QueueRules.{AreProper, queue_rules}}, Polling.Plans.table_of};
+ghost use Rattle.layer_traits.specs.{Threads.Places.{at_boot, pending_by, Stands}, Blocks.Payloads.{abstract_sched_call, abstract_sched_answer}};
+ghost use Rattle.layer_traits.specs.{Blocks.{QueueBlocks.{StartsWell, homes_in, inner}, QueueRules.{AreProper, queue_rules}}, Polling.Plans.table_of};
 ghost use Rattle.layer_traits.specs.{Polling.Polls.until_answered, Layers.Scheds.{BufferIsThere, IsLocal, MaySched, SchedPolled, sched_plan}};
 ghost use Rattle.layer_traits.specs.Layers.Queues.{QueueAllowed, buffer_sections, cpu_of_queue_event, event_of, kernel, moves_in};
 ghost use Rattle.event_log.specs.{declared.ids.{LockId.TheVariants.{Buffer, Pending}, TheConstants.THREADS}, Sections.{block_after, sections_in}};
@@ -44,11 +44,11 @@ pub struct SchedLaw<E> {
 }
 
 impl<E: Moves> Law for SchedLaw<E> {
-    type Call = SchedCall<E::Handed>;
+    type Call = SchedCall<E::Request>;
 
-    type Answer = SchedAnswer<E::Brought>;
+    type Answer = SchedAnswer<E::Response>;
 
-    type Told = SchedAnswer<E::Out>;
+    type AbstractAnswer = SchedAnswer<E::Out>;
 
     type Block = QueueBlock<E::Block>;
 
@@ -64,33 +64,33 @@ impl<E: Moves> Law for SchedLaw<E> {
 
     ghost cpu_of_event = { cpu_of_queue_event };
 
-    ghost told = { sched_told E.told };
+    ghost abstract_answer = { abstract_sched_answer E.abstract_answer };
 
-    ghost allowed = { λ opening. QueueAllowed (kernel E.rules E.moves opening) };
+    ghost allowed = { λ opening. QueueAllowed (kernel E.protocol E.moves opening) };
 
-    ghost IsThere = { λ opening call payload. BufferIsThere opening call };
+    ghost LockExists = { λ opening call payload. BufferIsThere opening call };
 
-    ghost IsLocal = { λ own call payload. IsLocal call };
+    ghost IsLocal = { λ local call payload. IsLocal call };
 
-    ghost AreHomes = { λ homes. length homes ≤ THREADS };
+    ghost AreValidHomes = { λ homes. length homes ≤ THREADS };
 
     ghost at_boot = { at_boot };
 
-    ghost Boots = { λ opening seen homes cpu. (seen ≡ []) × (homes_in opening ≡ homes) × IsSome (opening (Pending cpu)) };
+    ghost Boots = { λ opening history homes cpu. (history ≡ []) × (homes_in opening ≡ homes) × IsSome (opening (Pending cpu)) };
 
-    ghost MayPoll = { λ opening cpu seen own under_way call payload. MaySched (kernel E.rules E.moves opening) cpu seen own under_way
-        (sched_meant E.meant call payload) };
+    ghost MayPoll = { λ opening cpu history local under_way call payload. MaySched (kernel E.protocol E.moves opening) cpu history local under_way
+        (abstract_sched_call E.abstract_call call payload) };
 
-    ghost LeavesBegun = { λ cpu call payload result begun. begun ≡ until_answered result (sched_meant E.meant call payload) };
+    ghost LeavesBegun = { λ cpu call payload result begun. begun ≡ until_answered result (abstract_sched_call E.abstract_call call payload) };
 
-    ghost Polled = { λ opening ActsFor cpu call payload told old new own own' begun. SchedPolled (kernel E.rules E.moves opening) ActsFor cpu
-        (sched_meant E.meant call payload) told old new own own' };
+    ghost Polled = { λ opening ActsFor cpu call payload abstract_answer old new local local' begun. SchedPolled (kernel E.protocol E.moves opening) ActsFor cpu
+        (abstract_sched_call E.abstract_call call payload) abstract_answer old new local local' };
 
     ghost IsPrompt = { λ _ _ result _ _. IsSome result };
 
-    ghost table = { table_of (queue_rules E.rules E.moves) };
+    ghost table = { table_of (queue_rules E.protocol E.moves) };
 
-    ghost plan = { λ opening cpu call payload own. sched_plan E.moves (homes_in opening) cpu (sched_meant E.meant call payload) own };
+    ghost plan = { λ opening cpu call payload local. sched_plan E.moves (homes_in opening) cpu (abstract_sched_call E.abstract_call call payload) local };
 
     ghost events_in = { λ acts. map event_of (sections_in acts) };
 
@@ -102,7 +102,7 @@ impl<E: Moves> Law for SchedLaw<E> {
 
     ghost MovesAreLegal = { λ _ _. Unit {0} };
 
-    ghost Agrees = { λ opening cpu seen own. Stands (homes_in opening) cpu (moves_in (kernel E.rules E.moves opening) seen) own };
+    ghost Agrees = { λ opening cpu history local. Stands (homes_in opening) cpu (moves_in (kernel E.protocol E.moves opening) history) local };
 }
 
 impl<E: Moves> BlockLaw for SchedLaw<E> {
@@ -112,9 +112,9 @@ impl<E: Moves> BlockLaw for SchedLaw<E> {
 
     ghost above = { λ block. block };
 
-    ghost block_after = { λ opening seen b. block_after E.rules.edited (inner opening) (Buffer b) (buffer_sections seen) };
+    ghost block_after = { λ opening history b. block_after E.protocol.edited (inner opening) (Buffer b) (buffer_sections history) };
 
-    ghost pending_after = { λ opening seen d. pending_by (moves_in (kernel E.rules E.moves opening) seen) d };
+    ghost pending_after = { λ opening history d. pending_by (moves_in (kernel E.protocol E.moves opening) history) d };
 }
 
 /// One CPU's part of a layer of schedulers. A poll does at most one atomic action of the call. To
@@ -123,26 +123,26 @@ pub trait SchedLayer<E: Moves>: Layer<SchedLaw<E>> {
     /// Returns the thread that runs; `None` if none does.
     #[inline(always)]
     fn current(&self) -> Option<Tid>
-        ensures { result ≡ (Self.own self.now).current }
+        ensures { result ≡ (Self.local self.now).current }
     {
-        self.own_here().current()
+        self.local_here().current()
     }
 
     /// Returns the woken thread in the hand, whose home is another CPU; `None` if there is none.
     #[inline(always)]
     fn hand(&self) -> Option<Tid>
-        ensures { result ≡ (Self.own self.now).hand }
+        ensures { result ≡ (Self.local self.now).hand }
     {
-        self.own_here().hand()
+        self.local_here().hand()
     }
 
     /// Returns whether any thread is ready.
     #[inline(always)]
     fn has_ready(&self) -> bool
-        ensures some { result ≡ true → (Self.own self.now).ready ≢ [] }
-        ensures none { result ≡ false → (Self.own self.now).ready ≡ [] }
+        ensures some { result ≡ true → (Self.local self.now).ready ≢ [] }
+        ensures none { result ≡ false → (Self.local self.now).ready ≡ [] }
     {
-        self.own_here().has_ready()
+        self.local_here().has_ready()
     }
 }
 

@@ -3,13 +3,13 @@
 //! No call is given an allocator, and none waits.
 
 ghost use Rattle.std.specs.Prelude.{◌≡◌, ◌≤◌, [], IsSome, None, length, map, false};
-ghost use Rattle.layer_traits.specs.Layers.{Sleeping.{SleepState, NobodySleeps, sleep_edited, sleep_moves, sleep_rules}, Queues.QueueAllowed};
-ghost use Rattle.layer_traits.specs.Layers.{Queues.{buffer_sections, cpu_of_queue_event, event_of, moves_in}, Scheds.SchedPolled, SleepLaw.{Sleeping, MayCall}};
-ghost use Rattle.layer_traits.specs.{Layers.SleepLaw.{MaySleep, MustSend, SleepPolled, sleep_kernel, sleep_plan, done_if, pass_plan}, Threads.Places.at_boot};
-ghost use Rattle.layer_traits.specs.{Threads.{Places.{pending_by, AreMoves}, ListsAgree.SleepAgrees}, Views.Owned.wait_list_with, Blocks.Payloads.outcome_told};
-ghost use Rattle.layer_traits.specs.{Blocks.{QueueBlocks.{StartsWell, homes_in, inner}, QueueRules.{AreProper, queue_rules}}, Polling.Plans.table_of};
-ghost use Rattle.{layer_traits.specs.Polling.Polls.until_answered, event_log.specs.declared.ids.{LockId.TheVariants.{Buffer, Pending}, TheConstants.THREADS}};
-ghost use Rattle.event_log.specs.Sections.{block_after, sections_in};
+ghost use Rattle.layer_traits.specs.Layers.{Sleeping.{SleepState, NoSleepers, sleep_edited, sleep_moves, sleep_rules}, Queues.{QueueAllowed, buffer_sections}};
+ghost use Rattle.layer_traits.specs.Layers.{Queues.{cpu_of_queue_event, event_of, moves_in}, Scheds.SchedPolled, SleepLaw.{Sleeping, MayCall, MaySleep}};
+ghost use Rattle.layer_traits.specs.{Layers.SleepLaw.{MustSend, SleepPolled, sleep_kernel, sleep_plan, done_if, pass_plan}, Threads.Places.at_boot};
+ghost use Rattle.layer_traits.specs.{Threads.{Places.{pending_by, AreMoves}, ListsAgree.SleepAgrees}, Views.Owned.wait_list_with};
+ghost use Rattle.layer_traits.specs.Blocks.{Payloads.abstract_outcome, QueueBlocks.{StartsWell, homes_in, inner}, QueueRules.{AreProper, queue_rules}};
+ghost use Rattle.{layer_traits.specs.Polling.{Plans.table_of, Polls.until_answered}, event_log.specs.declared.ids.LockId.TheVariants.{Buffer, Pending}};
+ghost use Rattle.event_log.specs.{declared.ids.TheConstants.THREADS, Sections.{block_after, sections_in}};
 ghost use Rattle.layer_traits.specs.declared.scheds.SchedCall.TheVariants as sched;
 
 use crate::layers::Law;
@@ -69,11 +69,11 @@ pub struct SleepLaw<E> {
 }
 
 impl<E: Sleeps> Law for SleepLaw<E> {
-    type Call = BufferCall<E::Handed>;
+    type Call = BufferCall<E::Request>;
 
-    type Answer = Outcome<E::Brought>;
+    type Answer = Outcome<E::Response>;
 
-    type Told = Outcome<E::Out>;
+    type AbstractAnswer = Outcome<E::Out>;
 
     type Block = QueueBlock<SleepStateOf<E::Block>>;
 
@@ -89,35 +89,36 @@ impl<E: Sleeps> Law for SleepLaw<E> {
 
     ghost cpu_of_event = { cpu_of_queue_event };
 
-    ghost told = { λ outcome payload. outcome_told E.told outcome payload.parcel };
+    ghost abstract_answer = { λ outcome payload. abstract_outcome E.abstract_answer outcome payload.message_slot };
 
-    ghost allowed = { λ opening. QueueAllowed (sleep_kernel E.rules opening) };
+    ghost allowed = { λ opening. QueueAllowed (sleep_kernel E.protocol opening) };
 
-    ghost IsThere = { λ opening call payload. IsSome (opening (Buffer call.buffer)) };
+    ghost LockExists = { λ opening call payload. IsSome (opening (Buffer call.buffer)) };
 
     ghost IsLocal = { λ _ _ _. ⊥ };
 
-    ghost AreHomes = { λ homes. length homes ≤ THREADS };
+    ghost AreValidHomes = { λ homes. length homes ≤ THREADS };
 
     ghost at_boot = { λ homes cpu. record { threads = at_boot homes cpu; deferred = None } };
 
-    ghost Boots = { λ opening seen homes cpu. (seen ≡ []) × (homes_in opening ≡ homes) × IsSome (opening (Pending cpu)) × NobodySleeps (inner opening) };
+    ghost Boots = { λ opening history homes cpu. (history ≡ []) × (homes_in opening ≡ homes) × IsSome (opening (Pending cpu)) × NoSleepers (inner opening) };
 
-    ghost MayPoll = { λ opening cpu seen own under_way call payload. MayCall under_way (sched.OnBuffer call.buffer (E.meant call.edit payload.parcel))
-        (MaySleep (sleep_kernel E.rules opening) cpu seen own.threads call.buffer (E.meant call.edit payload.parcel)) };
+    ghost MayPoll = { λ opening cpu history local under_way call payload. MayCall under_way
+        (sched.OnBuffer call.buffer (E.abstract_call call.edit payload.message_slot))
+        (MaySleep (sleep_kernel E.protocol opening) cpu history local.threads call.buffer (E.abstract_call call.edit payload.message_slot)) };
 
     ghost LeavesBegun = { λ cpu call payload result begun. begun ≡ until_answered result
-        (sched.OnBuffer call.buffer (E.meant call.edit payload.parcel)) };
+        (sched.OnBuffer call.buffer (E.abstract_call call.edit payload.message_slot)) };
 
-    ghost Polled = { λ opening ActsFor cpu call payload told old new own own' begun. SleepPolled (sleep_kernel E.rules opening) ActsFor cpu
-        call.buffer (E.meant call.edit payload.parcel) old new own (record { own = own'; answer = told }) };
+    ghost Polled = { λ opening ActsFor cpu call payload abstract_answer old new local local' begun. SleepPolled (sleep_kernel E.protocol opening) ActsFor cpu
+        call.buffer (E.abstract_call call.edit payload.message_slot) old new local (record { local = local'; answer = abstract_answer }) };
 
-    ghost IsPrompt = { λ call payload result own own'. result ≡ None → MustSend own own' };
+    ghost IsPrompt = { λ call payload result local local'. result ≡ None → MustSend local local' };
 
-    ghost table = { table_of (queue_rules (sleep_rules E.rules) (sleep_moves E.rules)) };
+    ghost table = { table_of (queue_rules (sleep_rules E.protocol) (sleep_moves E.protocol)) };
 
-    ghost plan = { λ opening cpu call payload own. sleep_plan (sleep_moves E.rules) (homes_in opening) cpu call.buffer
-        (E.meant call.edit payload.parcel) own };
+    ghost plan = { λ opening cpu call payload local. sleep_plan (sleep_moves E.protocol) (homes_in opening) cpu call.buffer
+        (E.abstract_call call.edit payload.message_slot) local };
 
     ghost events_in = { λ acts. map event_of (sections_in acts) };
 
@@ -127,24 +128,24 @@ impl<E: Sleeps> Law for SleepLaw<E> {
 
     ghost AreProper = { λ acts. AreProper (sections_in acts) };
 
-    ghost MovesAreLegal = { λ opening seen. AreMoves (homes_in opening) (moves_in (sleep_kernel E.rules opening) seen) };
+    ghost MovesAreLegal = { λ opening history. AreMoves (homes_in opening) (moves_in (sleep_kernel E.protocol opening) history) };
 
-    ghost Agrees = { λ opening cpu seen own. SleepAgrees E.rules opening cpu seen own.threads };
+    ghost Agrees = { λ opening cpu history local. SleepAgrees E.protocol opening cpu history local.threads };
 }
 
 impl<E: Sleeps> ThreadLaw for SleepLaw<E> {
-    ghost threads_of = { λ own. own.threads };
+    ghost threads_of = { λ local. local.threads };
 
     ghost at_once = { λ _. false };
 
     ghost pass_begun = { sched.Pass };
 
-    ghost Passed = { λ opening ActsFor cpu call result old new own own'. SchedPolled (sleep_kernel E.rules opening) ActsFor cpu (sched.Pass call)
-        (done_if result) old new own own' };
+    ghost Passed = { λ opening ActsFor cpu call result old new local local'. SchedPolled (sleep_kernel E.protocol opening) ActsFor cpu (sched.Pass call)
+        (done_if result) old new local local' };
 
-    ghost KeepsRest = { λ own own'. own'.deferred ≡ own.deferred };
+    ghost KeepsRest = { λ local local'. local'.deferred ≡ local.deferred };
 
-    ghost pass_plan = { λ opening cpu call own. pass_plan (sleep_moves E.rules) (homes_in opening) cpu call own };
+    ghost pass_plan = { λ opening cpu call local. pass_plan (sleep_moves E.protocol) (homes_in opening) cpu call local };
 }
 
 impl<E: Sleeps> SleeperLaw for SleepLaw<E> {
@@ -154,9 +155,9 @@ impl<E: Sleeps> SleeperLaw for SleepLaw<E> {
 
     ghost above = { λ state. state.above };
 
-    ghost block_after = { λ opening seen b. block_after (sleep_edited E.rules) (inner opening) (Buffer b) (buffer_sections seen) };
+    ghost block_after = { λ opening history b. block_after (sleep_edited E.protocol) (inner opening) (Buffer b) (buffer_sections history) };
 
-    ghost pending_after = { λ opening seen d. pending_by (moves_in (sleep_kernel E.rules opening) seen) d };
+    ghost pending_after = { λ opening history d. pending_by (moves_in (sleep_kernel E.protocol opening) history) d };
 
     ghost owner_of = { λ state. None };
 

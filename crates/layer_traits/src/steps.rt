@@ -44,14 +44,14 @@ pub fn steps_of(cpu: CpuId, steps: &[CpuId]) -> usize
 fn runs_of(cpu: CpuId, steps: &[CpuId]) -> usize
     ensures { BeginWith cpu result steps.now }
 {
-    let mut own = 0;
-    while RUN <= steps.len() - own {
-        if !all_of(cpu, &steps[own..own + RUN]) {
-            return own;
+    let mut local = 0;
+    while RUN <= steps.len() - local {
+        if !all_of(cpu, &steps[local..local + RUN]) {
+            return local;
         }
-        own += RUN;
+        local += RUN;
     }
-    own
+    local
 }
 
 /// Returns whether all of `steps` are those of `cpu`. It has no early exit, so that many steps are
@@ -71,12 +71,12 @@ fn all_of(cpu: CpuId, steps: &[CpuId]) -> bool
 fn few_of(cpu: CpuId, steps: &[CpuId]) -> usize
     ensures { BeginWith cpu result steps.now }
 {
-    let mut own = 0;
+    let mut local = 0;
     for step in steps {
         if step.0 != cpu.0 {
-            return own;
+            return local;
         }
-        own += 1;
+        local += 1;
     }
-    own
+    local
 }

@@ -28,16 +28,16 @@ impl<W: UsesGrantWords> GrantWords for W {
 
     ghost opening = { λ w. W.opening w };
 
-    ghost seen = { λ w. as_grants (W.seen w) };
+    ghost history = { λ w. as_grants (W.history w) };
 
     ghost ActsFor = { λ w c. W.ActsFor w c };
 
     ghost room = { λ w. W.room w };
 
-    ghost site = { λ w. W.site w };
+    ghost machine_id = { λ w. W.machine_id w };
 
     #[inline(always)]
-    fn mark(handed: <W::Edit as SplitEdit>::Handed, edit: W::Edit) -> W::Mark {
+    fn mark(handed: <W::Edit as SplitEdit>::Request, edit: W::Edit) -> W::Mark {
         <W as Words>::mark(handed, edit)
     }
 
@@ -72,7 +72,7 @@ impl<W: UsesGrantWords> GrantWords for W {
         self.free(cpu, lock, block, mark);
     }
 
-    ghost legal = { λ w c acts. as_grants_come (W.Edit.rules.allowed (W.opening w)) (W.seen w) (W.legal w c acts) };
+    ghost legal = { λ w c acts. as_grants_come (W.Edit.protocol.allowed (W.opening w)) (W.history w) (W.legal w c acts) };
 }
 
 impl<W: OwnedWords + UsesGrantWords> OwnedGrantWords for W {
@@ -87,7 +87,7 @@ impl<W: OwnedWords + UsesGrantWords> OwnedGrantWords for W {
         room: usize,
     ) -> Result<Self, NoMemory>
         requires distinct { AreDistinct blocks.items }
-        ensures seen { IfOk result (λ w. ⟦<W as GrantWords>⟧.seen w ≡ []) }
+        ensures history { IfOk result (λ w. ⟦<W as GrantWords>⟧.history w ≡ []) }
         ensures opening { IfOk result (λ w. ⟦<W as GrantWords>⟧.opening w ≡ opened blocks.items) }
         ensures room { IfOk result (λ w. ⟦<W as GrantWords>⟧.room w ≡ room) }
         ensures acts { IfOk result (λ w. (c : _) → c.0 < CPUS → ⟦<W as GrantWords>⟧.ActsFor w c) }
@@ -99,6 +99,6 @@ impl<W: OwnedWords + UsesGrantWords> OwnedGrantWords for W {
         <W as OwnedWords>::block(self, lock)
     }
 
-    ghost blocks = { λ w c lock acts there. home_as_grants W.Edit.rules.edited (W.opening w) (W.seen w)
-        (words_legal (W.Edit.rules.allowed (W.opening w)) (W.seen w) (W.legal w c acts)) lock (W.block_at w lock) (W.blocks w c lock acts there) };
+    ghost blocks = { λ w c lock acts there. home_as_grants W.Edit.protocol.edited (W.opening w) (W.history w)
+        (words_legal (W.Edit.protocol.allowed (W.opening w)) (W.history w) (W.legal w c acts)) lock (W.block_at w lock) (W.blocks w c lock acts there) };
 }

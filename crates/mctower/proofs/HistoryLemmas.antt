@@ -6,10 +6,10 @@ use Rattle.std.specs.{Prelude.{Result, slice_get, slice_index_or}, List.AllByRec
 use Rattle.event_log.{specs.{declared.{entries.Entry.Entry, ids.{CpuId.CpuId, Tid.Tid}}, Messages.Message, Traces.IsInterleaving}, proofs.Streams.taken_put}
 use Rattle.guest.specs.{declared.instructions.Instruction.Instruction, Calls.{AreProgramsCalls, made_none}, State.at_start}
 use Rattle.{layer_traits.specs.Threads.{OnePlace.cpu_at, Places.home_of}, boot.specs.Plan.{BootPlan, Task, plan_home_of, plan_program_of}}
-use Rattle.cpu.specs.{declared.guests.Guest.Guest, Boots.{guests_for, homes_for, tables_for}, Claims.{CpuShown, Shown, programs_in, traces_of}, Cpus.IsOfHome}
-use Rattle.cpu.specs.{Cpus.{guest_at, of_thread, programs_of}, Sound.setup_for, Table.Setups.{program_of, program_or}}
+use Rattle.cpu.specs.{declared.guests.Guest.Guest, Boots.{guests_for, homes_for, tables_for}, Claims.{CpuView, SystemView, programs_in, traces_of}}
+use Rattle.cpu.specs.{Cpus.{IsOfHome, guest_at, of_thread, programs_of}, Sound.setup_for, Table.Setups.{program_of, program_or}}
 use Rattle.cpu.proofs.{ListFacts.ListReads.{listed_length, listed_there, set_else, set_there, shown_at, shows_at}, WholeSystems.PlanGuests.guest_home}
-use Rattle.cpu_workers.specs.{declared.workers.stops.Stop.Stop, Lawful.{CpuReport, ReportsTrue, ShownReport, left_in}}
+use Rattle.cpu_workers.specs.{declared.workers.stops.Stop.Stop, Lawful.{CpuReport, ReportsTrue, ReportView, left_in}}
 use Rattle.mctower.specs.{declared.{refusals.Refusal.Refusal, serve.outcomes.Done.Done}, Histories.{IsHistoryText, TextsAreHistories}, Output.Output}
 use Rattle.mctower.{specs.{Serve.RunsTrace, Texts.IsTextOf, Threads.{AlwaysOpen, IsWorkedPlan}}, proofs.OrderNumbers.order_all}
 
@@ -54,7 +54,7 @@ module _ (t k : ℕ) (traces : List (List Entry)) (e : Entry) (es : List Entry) 
   left_away j trace is other = elim (cases_eq j at) [
     | inl same ↦
         let now : rest ≡ trace = cc (set_there traces at rest there, ap (λ (i : ℕ). slice_get (set traces at rest) i) same, is) in
-        ap (of_thread t) (sym now) ∙ none_behind t e rest (away at (e ∷ rest) here (λ own. other (same ∙ own)))
+        ap (of_thread t) (sym now) ∙ none_behind t e rest (away at (e ∷ rest) here (λ local. other (same ∙ local)))
     | inr differ ↦ away j trace (sym (set_else traces at j rest differ) ∙ is) other
   ]
 
@@ -69,7 +69,7 @@ module _ (t k : ℕ) (traces : List (List Entry)) (e : Entry) (es : List Entry) 
         first_is t e es rest (e.thread.0 == t) refl (later ∙ ap (of_thread t) after) ∙ ap (of_thread t) (sym now)
     | inr differ ↦
         first_away t e es rest (e.thread.0 == t) refl (away at (e ∷ rest) here differ) ∙ later
-        ∙ ap (of_thread t) (read_alike (set traces at rest) traces k (set_else traces at k rest (λ own. differ (sym own))))
+        ∙ ap (of_thread t) (read_alike (set traces at rest) traces k (set_else traces at k rest (λ local. differ (sym local))))
   ]
 
 -- the entries of a thread in an order of traces are those of one trace, where no other has any
@@ -142,7 +142,7 @@ program_alike (p ∷ ps) zero = refl
 program_alike (p ∷ ps) (suc t) = program_alike ps t
 
 module _ (plan : BootPlan) (turns : ℕ) (stops : List Stop) (text : List ℕ) (worked : IsWorkedPlan plan turns stops text) where
-  abbrev r : ShownReport
+  abbrev r : ReportView
   r = worked.report
 
   told : (c : ℕ) (trace : List Entry) → slice_get r.traces c ≡ Some trace
@@ -184,7 +184,7 @@ home_is plan t c home =
     )) t.0 c home
 
 -- the guest of a thread on its home has the plan's program
-guest_is : (plan : BootPlan) (s : Shown) → programs_in s ≡ map programs_of (tables_for plan) → (c : ℕ) (p : CpuShown) → slice_get s.cpus c ≡ Some p
+guest_is : (plan : BootPlan) (s : SystemView) → programs_in s ≡ map programs_of (tables_for plan) → (c : ℕ) (p : CpuView) → slice_get s.cpus c ≡ Some p
     → c < plan.cpus → (t : Tid) → home_of (homes_for plan) t ≡ Some (cpu_at c)
     → (g : Guest) × (guest_at p.guests t.0 ≡ Some g) × (g.program ≡ plan_program_of plan t.0)
 guest_is plan s programs c p at below t home = found (guest_at p.guests t.0) refl
@@ -199,9 +199,9 @@ guest_is plan s programs c p at below t home = found (guest_at p.guests t.0) ref
 
     same : programs_of p.guests ≡ programs_of (guests_for plan c)
     same =
-        let shown = shows_at (λ (q : CpuShown). programs_of q.guests) s.cpus c p at in
-        let meant = shows_at programs_of (tables_for plan) c (guests_for plan c) tables_at in
-        cc (shown, meant, ap (λ (l : List (List (Option (List Instruction)))). slice_get l c) programs)
+        let shown = shows_at (λ (q : CpuView). programs_of q.guests) s.cpus c p at in
+        let abstract_call = shows_at programs_of (tables_for plan) c (guests_for plan c) tables_at in
+        cc (shown, abstract_call, ap (λ (l : List (List (Option (List Instruction)))). slice_get l c) programs)
 
     program : option_map (λ (g : Guest). g.program) (guest_at p.guests t.0) ≡ Some (plan_program_of plan t.0)
     program =
@@ -217,18 +217,18 @@ guest_is plan s programs c p at below t home = found (guest_at p.guests t.0) ref
         (g, is, cc both)
 
 module _ (plan : BootPlan) (steps : List CpuId) (answer : Result Done Refusal) (printed : Output) (runs : RunsTrace plan steps answer printed) where
-  abbrev s : Shown
+  abbrev s : SystemView
   s = runs.system
 
   shown_stays : (c : ℕ) (trace : List Entry) → slice_get (traces_of s) c ≡ Some trace → AllByRecursion (IsOfHome (homes_for plan) (cpu_at c)) trace
   shown_stays c trace at =
       subst (λ (homes : List CpuId). AllByRecursion (IsOfHome homes (cpu_at c)) trace) runs.ran.system.homes
-      (shown_at (λ (p : CpuShown). p.trace) (λ k l. AllByRecursion (IsOfHome s.homes (cpu_at k)) l) s.cpus (λ k p there. runs.ran.stay k p there) c trace at)
+      (shown_at (λ (p : CpuView). p.trace) (λ k l. AllByRecursion (IsOfHome s.homes (cpu_at k)) l) s.cpus (λ k p there. runs.ran.stay k p there) c trace at)
 
   shown_calls : (c : ℕ) (trace : List Entry) → slice_get (traces_of s) c ≡ Some trace → (t : Tid) → home_of (homes_for plan) t ≡ Some (cpu_at c)
       → AreProgramsCalls (plan_program_of plan t.0) (of_thread t.0 trace)
   shown_calls c trace at =
-      shown_at (λ (p : CpuShown). p.trace) (λ k l. (t : Tid) → home_of (homes_for plan) t ≡ Some (cpu_at k)
+      shown_at (λ (p : CpuView). p.trace) (λ k l. (t : Tid) → home_of (homes_for plan) t ≡ Some (cpu_at k)
       → AreProgramsCalls (plan_program_of plan t.0) (of_thread t.0 l)) s.cpus
       (λ k p there t home.
       let below : k < plan.cpus = rw runs.ran.system.cpus at (slice_get_within s.cpus k p there) in

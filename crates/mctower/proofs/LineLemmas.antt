@@ -30,7 +30,7 @@ number_refused least most text none =
 -- what a program with one command more reads
 pub program_grown : (old sub new : Command) (a b : App) → AddsSubcommand old sub new → app_of old ≡ a → app_of sub ≡ b
     → (out-Command sub).has_globals ≡ false → app_of new ≡ with_subcommand a b.top
-program_grown old sub new a b adds above below local = adds.shape local ∙ ap₂ with_subcommand above (ap (λ (x : App). x.top) below)
+program_grown old sub new a b adds above below local_is = adds.shape local_is ∙ ap₂ with_subcommand above (ap (λ (x : App). x.top) below)
 
 -- ---- what clap makes of the words
 

@@ -6,7 +6,7 @@ use Rattle.std.specs.{Prelude.{slice_get, ◌==◌, ◌&&◌}, List.AllByRecursi
 use Rattle.event_log.specs.declared.{ids.TheConstants.{CPUS, ENTRIES, THREADS}, entries.{Entry.Entry, Kind.{Kind, TheVariants.{Send, Recv, Close, RecvClosed}}}}
 use Rattle.event_log.specs.{Runs.{kind_eq, IsNext, IsRunFrom, after_entry}, Traces.IsInterleaving, Buffers.{IsAllowedEffect, items_of, empty_buffers}}
 use Rattle.{event_log.{specs.{Buffers.after_effect, Messages.{IsMessage, Message}}, proofs.ListLemmas.{set_else, set_there}}, tracer.specs.TraceText.IsEntryOf}
-use Rattle.{tracer.specs.TraceText.IsValueOf, cpu.{specs.Claims.{HasOneOrder, Shown}, proofs.ListFacts.ListReads.all_both}}
+use Rattle.{tracer.specs.TraceText.IsValueOf, cpu.{specs.Claims.{HasLinearization, SystemView}, proofs.ListFacts.ListReads.all_both}}
 
 -- what holds of the entries of all traces holds of the entries of an order
 pub order_all : (P : Entry → Type 0) (traces : List (List Entry)) (order : List Entry)
@@ -37,15 +37,15 @@ value_allowed other closed capacity items value allowed small = small
 pub run_entries : (caps : List ℕ) (earlier : List Entry) (contents : List (List Message)) (es : List Entry) (left : List (List Message))
     → length earlier + length es ≤ ENTRIES → IsRunFrom caps earlier contents es left → AllByRecursion (λ e. (e.cpu.0 < CPUS) × (e.thread.0 < THREADS)) es
     → AllByRecursion (λ e. IsMessage e.value) es → AllByRecursion (IsEntryOf (length caps)) es
-run_entries caps earlier contents [] left few run own values = tt
-run_entries caps earlier contents (e ∷ es) left few run own values =
+run_entries caps earlier contents [] left few run local values = tt
+run_entries caps earlier contents (e ∷ es) left few run local values =
     let is : IsNext caps earlier contents e = run.0 in
     let op : e.op < ENTRIES = omega (arith, is.op, count_by-le-length (λ (x : Entry). x.buffer.0 == e.buffer.0) earlier) in
     let pos : e.pos < ENTRIES =
     omega (arith, is.pos, count_by-le-length (λ (x : Entry). (x.buffer.0 == e.buffer.0) && kind_eq x.kind e.kind) earlier) in
     let fits : length (earlier ++ e ∷ []) + length es ≤ ENTRIES = rw length_push (omega arith) in (
-      assumption (own.0, is, op, pos, value_allowed e.kind _ _ _ e.value is.allowed values.0),
-      run_entries caps (earlier ++ e ∷ []) (after_entry contents e) es left fits run.1 own.1 values.1,
+      assumption (local.0, is, op, pos, value_allowed e.kind _ _ _ e.value is.allowed values.0),
+      run_entries caps (earlier ++ e ∷ []) (after_entry contents e) es left fits run.1 local.1 values.1,
     )
 
 -- what holds of the values of a run's entries holds of what the buffers hold
@@ -89,5 +89,5 @@ run_length caps earlier contents (e ∷ es) left run =
     run_length caps (earlier ++ e ∷ []) (after_entry contents e) es left run.1 ∙ length-set contents e.buffer.0 _
 
 -- there are as many contents as buffers
-pub contents_length : (s : Shown) → HasOneOrder s → length s.contents ≡ length s.caps
+pub contents_length : (s : SystemView) → HasLinearization s → length s.contents ≡ length s.caps
 contents_length s one = run_length s.caps [] (empty_buffers s.caps) s.order s.contents one.run ∙ length-map s.caps _

@@ -2,9 +2,9 @@
 use Rattle.std.proofs.{Common.{◌≡◌, ℕ, true, false, List, [], length, map, replicate, sym, ap, ◌∙◌}, lemmas.{Bool.false≢true, List.{append-nil, length-map}}}
 use Rattle.std.specs.Prelude.{Result, Ok, Err, IsErrAnd}
 use Rattle.{event_log.{specs.{declared.ids.CpuId.CpuId, Buffers.empty_buffers}, proofs.{Streams.taken_put, RunLemmas.op_order_from}}, boot.specs.Plan.BootPlan}
-use Rattle.cpu.specs.{Boots.{guests_for, homes_for, tables_for}, Cpus.programs_of, Claims.{CpuShown, FollowPrograms, HasOneOrder, Shown, StandsOnce, StayHome}}
-use Rattle.cpu.specs.{Claims.traces_of, Sound.{BootsByTable, IsSetupFor, RanByTable, SoundByTable, setup_for}, Systems.{Ran, SamePlan, whole_of}}
-use Rattle.cpu.{specs.Observed.ObservedByTable, proofs.ListFacts.ListReads.{listed_length, map_twice}}
+use Rattle.cpu.specs.{Boots.{guests_for, homes_for, tables_for}, Cpus.programs_of, Claims.{CpuView, MatchesPrograms, HasLinearization, SystemView}}
+use Rattle.cpu.specs.{Claims.{HasUniquePlace, KeepsAffinity, traces_of}, Sound.{BootsByTable, IsSetupFor, RanByTable, SoundByTable, setup_for}, Systems.Ran}
+use Rattle.cpu.{specs.{Systems.{SamePlan, whole_of}, Observed.ObservedByTable}, proofs.ListFacts.ListReads.{listed_length, map_twice}}
 use Rattle.{cpu.proofs.{StepTable.ReachedSystems.setup_on, WholeSystems.RealTime.linear_ran}, mctower.specs.Output.{IsPut, IsUntouched, Output}}
 use Rattle.mctower.specs.{Plans.{IsOpened, IsSystemOf, table_run}, Running.{AreCpus, IsRunOf, IsPrinted, RunsPlan}, Texts.{IsOut, Writes}}
 use Rattle.mctower.{specs.declared.run.run_faults.Fault.{Fault, TheVariants.{NoMemory, BadCpu, WriteFault}}, proofs.TabledLemmas.text_of_run}
@@ -12,28 +12,28 @@ use Rattle.tracer.{specs.Sinks.Outs, proofs.{OrderLemmas.orders_agree, SinkLemma
 
 -- a system that opens with a plan's buffers, homes, guests and room for entries is the plan's, and
 -- took no step
-pub plan_opened : (plan : BootPlan) (room : ℕ) (s : Shown) → s.caps ≡ plan.caps → s.homes ≡ homes_for plan → map (λ p. p.guests) s.cpus ≡ tables_for plan
+pub plan_opened : (plan : BootPlan) (room : ℕ) (s : SystemView) → s.caps ≡ plan.caps → s.homes ≡ homes_for plan → map (λ p. p.guests) s.cpus ≡ tables_for plan
     → map (λ p. p.limit) s.cpus ≡ replicate plan.cpus plan.trace → s.room ≡ room → s.taken ≡ 0 → IsOpened plan room s
 plan_opened plan room s caps homes guests limits room_is taken =
-    let programs = sym (map_twice (λ (p : CpuShown). p.guests) programs_of s.cpus) ∙ ap (map programs_of) guests in
-    let count = sym (length-map s.cpus (λ (p : CpuShown). p.guests)) ∙ ap length guests ∙ listed_length (guests_for plan) plan.cpus 0 in
+    let programs = sym (map_twice (λ (p : CpuView). p.guests) programs_of s.cpus) ∙ ap (map programs_of) guests in
+    let count = sym (length-map s.cpus (λ (p : CpuView). p.guests)) ∙ ap length guests ∙ listed_length (guests_for plan) plan.cpus 0 in
     assumption (programs, count)
 
 -- steps leave a plan's system the plan's
-pub stays_of : (plan : BootPlan) (first last : Shown) → IsSystemOf plan first → SamePlan first last → IsSystemOf plan last
+pub stays_of : (plan : BootPlan) (first last : SystemView) → IsSystemOf plan first → SamePlan first last → IsSystemOf plan last
 stays_of plan first last of same =
     assumption (same.caps ∙ of.caps, same.homes ∙ of.homes, same.programs ∙ of.programs, same.count ∙ of.cpus, same.limits ∙ of.limits)
 
 -- a schedule that the step table runs from a plan's system at boot
-by_table : (plan : BootPlan) (steps : List CpuId) (first last : Shown) → IsOpened plan (length steps) first → BootsByTable first
+by_table : (plan : BootPlan) (steps : List CpuId) (first last : SystemView) → IsOpened plan (length steps) first → BootsByTable first
     → IsSetupFor (setup_for plan) first → RanByTable first steps last → whole_of last ≡ table_run plan steps
 by_table plan steps first last of boots planned table = rw (table (setup_for plan) planned.goes, boots (setup_for plan) planned, of.room_is)
 
 -- a plan's system that took a schedule's steps
-pub run_of : (IsStepwise : Type 0) (plan : BootPlan) (steps : List CpuId) (first last : Shown) → IsOpened plan (length steps) first
+pub run_of : (IsStepwise : Type 0) (plan : BootPlan) (steps : List CpuId) (first last : SystemView) → IsOpened plan (length steps) first
     → Ran IsStepwise first steps last → (IsStepwise → BootsByTable first) → IsSetupFor (setup_for plan) first
     → (IsStepwise → RanByTable first steps last) → (IsStepwise → SoundByTable last) → (IsStepwise → ObservedByTable last)
-    → SamePlan first last → HasOneOrder last → FollowPrograms last → StayHome last → StandsOnce last → IsRunOf IsStepwise plan steps last
+    → SamePlan first last → HasLinearization last → MatchesPrograms last → KeepsAffinity last → HasUniquePlace last → IsRunOf IsStepwise plan steps last
 run_of IsStepwise plan steps first last of ran boots planned table sound told same one follow stay once = record {
   start = first;
   opened = of;
@@ -45,7 +45,7 @@ run_of IsStepwise plan steps first last of ran boots planned table sound told sa
   told = told;
   system = stays_of plan first last of.system same;
   room = same.room ∙ of.room_is;
-  one_order = one;
+  linearization = one;
   follow = follow;
   stay = stay;
   once = once;
@@ -59,18 +59,19 @@ all_put first whole text live out more same =
     (outs_then whole.failed first.old first.new whole.new text [] (all_out first.failed first.old first.new text live out) more)
 
 -- a fault that is passed on
-err_runs : (IsStepwise : Type 0) (plan : BootPlan) (steps : List CpuId) (r : Result Shown Fault) (e : Fault) (out : Output) → IsErrAnd r (λ f. f ≡ e)
+err_runs : (IsStepwise : Type 0) (plan : BootPlan) (steps : List CpuId) (r : Result SystemView Fault) (e : Fault) (out : Output) → IsErrAnd r (λ f. f ≡ e)
     → RunsPlan IsStepwise plan steps (Err e) out → RunsPlan IsStepwise plan steps r out
 err_runs IsStepwise plan steps (Ok s) e out is runs = absurd is
 err_runs IsStepwise plan steps (Err f) e out is runs = rw is runs
 
 -- the schedule names a CPU that the plan has not
-pub bad_cpu : (IsStepwise : Type 0) (plan : BootPlan) (steps : List CpuId) (first : Shown) (r : Result Shown Fault) (out : Output) → IsSystemOf plan first
+pub bad_cpu : (IsStepwise : Type 0) (plan : BootPlan) (steps : List CpuId) (first : SystemView) (r : Result SystemView Fault) (out : Output)
+    → IsSystemOf plan first
     → (AreCpus (length first.cpus) steps → false ≡ true) → IsUntouched out → IsErrAnd r (λ f. f ≡ BadCpu) → RunsPlan IsStepwise plan steps r out
 bad_cpu IsStepwise plan steps first r out of unknown untouched is =
     err_runs IsStepwise plan steps r BadCpu out is ((λ known. false≢true (unknown (rw of.cpus known))), untouched)
 
-module _ (IsStepwise : Type 0) (plan : BootPlan) (steps : List CpuId) (caps : List ℕ) (first last : Shown) (same : caps ≡ plan.caps)
+module _ (IsStepwise : Type 0) (plan : BootPlan) (steps : List CpuId) (caps : List ℕ) (first last : SystemView) (same : caps ≡ plan.caps)
     (of : IsSystemOf plan first) (known : AreCpus (length first.cpus) steps) (ran : IsRunOf IsStepwise plan steps last) where
   -- what is out is of the run's system
   out_ran : (out : Output) → IsOut caps (traces_of last) last.contents out → IsPrinted IsStepwise plan steps last out
@@ -82,7 +83,7 @@ module _ (IsStepwise : Type 0) (plan : BootPlan) (steps : List CpuId) (caps : Li
         out = written;
         fifo = taken_put plan.caps written.is.order last.contents written.is.run;
         in_time = orders_agree (traces_of last) written.is.order last.order written.is.keeps
-            (ran.one_order.keeps, op_order_from last.caps [] (empty_buffers last.caps) last.order last.contents ran.one_order.run);
+            (ran.linearization.keeps, op_order_from last.caps [] (empty_buffers last.caps) last.order last.contents ran.linearization.run);
         table = λ step. text_of_run IsStepwise plan steps last ran step written.text written.is;
       }
 
@@ -93,7 +94,7 @@ module _ (IsStepwise : Type 0) (plan : BootPlan) (steps : List CpuId) (caps : Li
   write_fault A other out writes = absurd writes
 
   -- the text could not be written
-  pub not_written : (A : Type 0) (r : Result Shown Fault) (e : Fault) (out : Output) → Writes {A = A} caps (traces_of last) last.contents (Err e) out
+  pub not_written : (A : Type 0) (r : Result SystemView Fault) (e : Fault) (out : Output) → Writes {A = A} caps (traces_of last) last.contents (Err e) out
       → IsErrAnd r (λ f. f ≡ e) → RunsPlan IsStepwise plan steps r out
   not_written A r e out writes is = err_runs IsStepwise plan steps r e out is (write_fault A e out writes)
 

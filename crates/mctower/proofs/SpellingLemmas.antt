@@ -3,14 +3,15 @@ use Rattle.std.proofs.{Common.{◌≡◌, ℕ, ◌<◌, ◌≤◌, List, [], ◌
 use Rattle.std.proofs.lemmas.{List.{Elements.{All-from_get_or, recursion_from_All}, Sums.sum_by-le}, Option.{get_or_from_slice_get, slice_get_within}}
 use Rattle.std.{proofs.lemmas.Option.slice_get-get_or, specs.{Prelude.{slice_get, All, Result, Ok, Err, IsErrAnd}, List.AllByRecursion}}
 use Rattle.event_log.{proofs.ListLemmas.alike_at, specs.{declared.{ids.TheConstants.{CPUS, THREADS, TRACE, ENTRIES}, entries.Entry.Entry}, Messages.IsMessage}}
-use Rattle.{event_log.specs.{Messages.Message, Runs.IsRun, Buffers.{empty_buffers, IsCapacity}}, boot.specs.Plan.BootPlan}
+use Rattle.{event_log.specs.{Messages.Message, Runs.IsLegalHistory, Buffers.{empty_buffers, IsCapacity}}, boot.specs.Plan.BootPlan}
 use Rattle.tracer.specs.{declared.{gathering.GatherError.GatherError, versions.Version.{Version, TheVariants.One}}, Gather.{IsOrder, TakesFirstReady}}
 use Rattle.tracer.specs.{Gather.HasNoOrder, TraceText.{IsItemOf, IsSpellable, spelling}, Versions.{both, version_from, version_of, version_of_entry}}
 use Rattle.tracer.{specs.Versions.{version_of_kind, version_of_message}, proofs.{OrderLemmas.{runs_have_order, run_alike}, VersionLemmas.covers_next}}
-use Rattle.{tracer.proofs.VersionLemmas.covers_second, cpu.specs.{Boots.homes_for, Cpus.IsOfHome, Calm.TracesFit, Claims.{CpuShown, HasOneOrder, Shown}}}
-use Rattle.{cpu.{specs.Claims.{StayHome, traces_of}, proofs.ListFacts.ListReads.{all_by, shown_at, shows_at}}, mctower.specs.Output.{IsPut, IsUntouched}}
-use Rattle.mctower.specs.{Output.Output, Plans.{IsSystemOf, IsOfPlan, from_gather}, Texts.{HaveText, IsOut, Writes}, declared.run.run_faults.Fault.Fault}
-use Rattle.{mctower.proofs.OrderNumbers.{order_all, run_entries, run_length, run_values, empty_values}, cpu_workers.proofs.OneOrder.order_length}
+use Rattle.{tracer.proofs.VersionLemmas.covers_second, cpu.specs.{Boots.homes_for, Cpus.IsOfHome, Quiescent.TracesFit, Claims.{CpuView, HasLinearization}}}
+use Rattle.{cpu.{specs.Claims.{SystemView, KeepsAffinity, traces_of}, proofs.ListFacts.ListReads.{all_by, shown_at, shows_at}}, mctower.specs.Output.IsPut}
+use Rattle.mctower.specs.{Output.{IsUntouched, Output}, Plans.{IsSystemOf, IsOfPlan, from_gather}, Texts.{HaveText, IsOut, Writes}}
+use Rattle.mctower.{specs.declared.run.run_faults.Fault.Fault, proofs.OrderNumbers.{order_all, run_entries, run_length, run_values, empty_values}}
+use Rattle.cpu_workers.proofs.OneOrder.{order_length}
 use Rattle.tracer.specs.declared.gathering.GatherError.TheVariants as gathering
 
 -- the version of entries can spell the message of each
@@ -24,7 +25,7 @@ items_of_version v (e ∷ es) all =
 
 -- each order of such traces is a run that ends in what is left
 ordered_run : (caps : List ℕ) (traces : List (List Entry)) (left : List (List Message)) (order : List Entry) → HaveText caps traces left
-    → IsOrder traces order → IsRun caps order left
+    → IsOrder traces order → IsLegalHistory caps order left
 ordered_run caps traces left order have is = run_alike traces caps have.order order left have.keeps have.runs is
 
 -- what is to be written has a spelling
@@ -34,14 +35,14 @@ spelled_so caps traces left es have is values =
     let plan = have.plan in
     let caps_are = have.caps_are in
     let fit : AllByRecursion (λ (e : Entry). IsMessage e.value) es = recursion_from_All (λ e. IsMessage e.value) es values in
-    let run : IsRun caps es left = ordered_run caps traces left es have is in
+    let run : IsLegalHistory caps es left = ordered_run caps traces left es have is in
     let homes : length (homes_for plan) ≡ length plan.tasks = length-map plan.tasks _ in
     let threads : length (homes_for plan) ≤ THREADS = omega (arith, homes, have.within.tasks.most) in
     let short : All (λ (trace : List Entry). length trace ≤ TRACE) traces =
     All-from_get_or (λ trace. length trace ≤ TRACE) traces [] (λ k lt.
     omega (arith, have.fit k (get_or traces k []) (slice_get-get_or traces k [] lt), have.within.most_trace)) in
     let few : length es ≤ ENTRIES = omega (arith, sum_by-le length TRACE traces short, order_length traces es is.0, have.count, have.within.most_cpus) in
-    let own : AllByRecursion (λ (e : Entry). (e.cpu.0 < CPUS) × (e.thread.0 < THREADS)) es =
+    let local : AllByRecursion (λ (e : Entry). (e.cpu.0 < CPUS) × (e.thread.0 < THREADS)) es =
     order_all (λ e. (e.cpu.0 < CPUS) × (e.thread.0 < THREADS)) traces es (λ k trace at.
     let here : k < CPUS = omega (arith, slice_get_within traces k trace at, have.count, have.within.most_cpus) in
     all_by (IsOfHome (homes_for plan) (record { 0 = k })) (λ e. (e.cpu.0 < CPUS) × (e.thread.0 < THREADS)) trace
@@ -51,7 +52,7 @@ spelled_so caps traces left es have is values =
       few_buffers = rw caps_are have.within.caps.most;
       capacities = rw caps_are (recursion_from_All IsCapacity plan.caps have.within.caps.each);
       few_entries = few;
-      entries = run_entries caps [] (empty_buffers caps) es left (omega arith) run own fit;
+      entries = run_entries caps [] (empty_buffers caps) es left (omega arith) run local fit;
       each_left = run_length caps [] (empty_buffers caps) es left run ∙ length-map caps _;
       values = run_values (IsItemOf (version_of es)) caps [] (empty_buffers caps) es left (empty_values (IsItemOf (version_of es)) caps)
           (items_of_version One es fit) run;
@@ -90,24 +91,24 @@ err_writes {A = A} caps traces left (Err f) e out is writes = subst (λ x. Write
 -- ---- a plan's system
 
 -- a CPU of a plan's system has room for as many entries as the plan says
-pub limit_at : (plan : BootPlan) (s : Shown) (k : ℕ) (p : CpuShown) → IsSystemOf plan s → slice_get s.cpus k ≡ Some p → p.limit ≡ plan.trace
+pub limit_at : (plan : BootPlan) (s : SystemView) (k : ℕ) (p : CpuView) → IsSystemOf plan s → slice_get s.cpus k ≡ Some p → p.limit ≡ plan.trace
 limit_at plan s k p of at =
     sym (get_or_from_slice_get (replicate plan.cpus plan.trace) k p.limit plan.trace
-    (ap (λ l. slice_get l k) (sym of.limits) ∙ shows_at (λ (x : CpuShown). x.limit) s.cpus k p at)) ∙ alike_at plan.cpus k plan.trace
+    (ap (λ l. slice_get l k) (sym of.limits) ∙ shows_at (λ (x : CpuView). x.limit) s.cpus k p at)) ∙ alike_at plan.cpus k plan.trace
 
 -- the traces of a plan's system have a text
-pub system_has : (cpus : ℕ) (caps : List ℕ) (s : Shown) → IsOfPlan cpus caps s → TracesFit s → StayHome s → HasOneOrder s
+pub system_has : (cpus : ℕ) (caps : List ℕ) (s : SystemView) → IsOfPlan cpus caps s → TracesFit s → KeepsAffinity s → HasLinearization s
     → HaveText caps (traces_of s) s.contents
 system_has cpus caps s of fits stay one = record {
   plan = of.plan;
   within = of.within;
   caps_are = of.caps;
-  count = length-map s.cpus (λ (p : CpuShown). p.trace) ∙ of.system.cpus;
-  fit = shown_at (λ (p : CpuShown). p.trace) (λ k trace. length trace ≤ of.plan.trace) s.cpus
+  count = length-map s.cpus (λ (p : CpuView). p.trace) ∙ of.system.cpus;
+  fit = shown_at (λ (p : CpuView). p.trace) (λ k trace. length trace ≤ of.plan.trace) s.cpus
       (λ k p at. omega (arith, fits k p at, limit_at of.plan s k p of.system at));
-  stay = shown_at (λ (p : CpuShown). p.trace) (λ k trace. AllByRecursion (IsOfHome (homes_for of.plan) (record { 0 = k })) trace) s.cpus
+  stay = shown_at (λ (p : CpuView). p.trace) (λ k trace. AllByRecursion (IsOfHome (homes_for of.plan) (record { 0 = k })) trace) s.cpus
       (λ k p at. rw of.system.homes at (stay k p at));
   order = s.order;
   keeps = one.keeps;
-  runs = subst (λ l. IsRun l s.order s.contents) (of.system.caps ∙ sym of.caps) one.run;
+  runs = subst (λ l. IsLegalHistory l s.order s.contents) (of.system.caps ∙ sym of.caps) one.run;
 }

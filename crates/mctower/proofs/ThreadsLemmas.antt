@@ -4,7 +4,7 @@ use Rattle.std.specs.{Prelude.{Result, Ok, Err, Vec, slice_get, if◌then◌else
 use Rattle.event_log.{specs.{declared.entries.Entry.Entry, Buffers.empty_buffers}, proofs.{Streams.taken_put, RunLemmas.op_order_from, BoolLemmas.refuted}}
 use Rattle.{layer_traits.specs.Threads.OnePlace.cpu_at, boot.specs.{declared.refusals.BootError.BootError, Plan.{BootPlan, IsPlan}}, tracer.specs.Sinks.Outs}
 use Rattle.{tracer.proofs.OrderLemmas.orders_agree, cpu.specs.Sound.setup_for, cpu_workers.specs.{declared.workers.stops.Stop.Stop, Lawful.IsLawfulReport}}
-use Rattle.{cpu_workers.specs.{Lawful.{CpuReport, ShownReport, ReportsTrue, left_in}, Logs.HasWords}, mctower.specs.declared.refusals.Refusal.Refusal}
+use Rattle.{cpu_workers.specs.{Lawful.{CpuReport, ReportView, ReportsTrue, left_in}, Logs.HasWords}, mctower.specs.declared.refusals.Refusal.Refusal}
 use Rattle.mctower.specs.declared.{refusals.Refusal.TheVariants.WriteFault, run.run_faults.Fault.Fault, serve.outcomes.Done.{Done, TheVariants.Worked}}
 use Rattle.mctower.specs.{Output.Output, Refusals.{from_fault, lacks_memory}, Serve.{OfPlan, RefusedBy, WorksPlan}, Texts.{HaveText, IsOut, IsTextOf, Writes}}
 use Rattle.mctower.{specs.Threads.{IsWorkedPlan, AlwaysOpen}, proofs.{RunningLemmas.all_put, ThreadsAreRuns.printed_by_run}}
@@ -18,7 +18,7 @@ of_read Means plan read answer out is (inl refused) = inl refused
 of_read Means plan read answer out is (inr means) = inr (rw is means)
 
 -- the traces of a lawful report have a text with what is left
-pub report_has : (plan : BootPlan) (turns : ℕ) (r : ShownReport) → IsPlan plan → IsLawfulReport (setup_for plan) AlwaysOpen turns r
+pub report_has : (plan : BootPlan) (turns : ℕ) (r : ReportView) → IsPlan plan → IsLawfulReport (setup_for plan) AlwaysOpen turns r
     → HaveText plan.caps r.traces (left_in (length plan.caps) r)
 report_has plan turns r within lawful = record {
   plan = plan;
@@ -42,7 +42,7 @@ report_has plan turns r within lawful = record {
         (one.0, cc (known, at), one.2)
 
 -- the plan's workers have run, and this is their text
-has_worked : (turns : ℕ) (plan : BootPlan) (r : ShownReport) (stops : Vec Stop Global) (text : List ℕ) → HasWords plan AlwaysOpen turns r
+has_worked : (turns : ℕ) (plan : BootPlan) (r : ReportView) (stops : Vec Stop Global) (text : List ℕ) → HasWords plan AlwaysOpen turns r
     → stops.items ≡ r.stops → IsTextOf plan.caps r.traces (left_in (length plan.caps) r) text → IsWorkedPlan plan turns stops.items text
 has_worked turns plan r stops text words same is = record {
   report = r;
@@ -59,7 +59,7 @@ has_worked turns plan r stops text words same is = record {
 }
 
 -- the plan's workers have run, their text is written, and nothing after it
-pub plan_worked : (turns : ℕ) (plan : BootPlan) (r : ShownReport) (stops : Vec Stop Global) (answer : Result Done Refusal) (first whole : Output)
+pub plan_worked : (turns : ℕ) (plan : BootPlan) (r : ReportView) (stops : Vec Stop Global) (answer : Result Done Refusal) (first whole : Output)
     → HasWords plan AlwaysOpen turns r → stops.items ≡ r.stops
     → (first.failed ≡ false) × IsOut plan.caps r.traces (left_in (length plan.caps) r) first
     → answer ≡ (if whole.failed then Err WriteFault else Ok (Worked stops)) → Outs whole.failed first.new whole.new [] → first.old ≡ whole.old
@@ -74,7 +74,7 @@ plan_worked turns plan r stops answer first whole words same writes given more o
     })
 
 -- their text could not be written
-pub not_written : (A : Type 0) (turns : ℕ) (plan : BootPlan) (r : ShownReport) (stops : Vec Stop Global) (fault : Fault) (refusal : Refusal) (out : Output)
+pub not_written : (A : Type 0) (turns : ℕ) (plan : BootPlan) (r : ReportView) (stops : Vec Stop Global) (fault : Fault) (refusal : Refusal) (out : Output)
     → HasWords plan AlwaysOpen turns r → stops.items ≡ r.stops
     → Writes {A = A} plan.caps r.traces (left_in (length plan.caps) r) (Err fault) out → refusal ≡ from_fault fault
     → RefusedBy lacks_memory (Err refusal) out ⊎ WorksPlan turns plan (Err refusal) out

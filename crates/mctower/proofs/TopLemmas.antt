@@ -3,13 +3,13 @@
 use Rattle.std.proofs.Common.{inl, inr, ℕ, ◌<◌, Bool, true, false, List, [], ◌∷◌, All, length, map, Option, Some, None, string_bytes, ap, ◌∙◌, refl}
 use Rattle.std.specs.Prelude.{Result, Ok, Err}
 use Rattle.{clap.specs.Walk.Text, event_log.specs.declared.ids.CpuId.CpuId, boot.specs.{Plan.BootPlan, declared.refusals.BootError.BootError}}
-use Rattle.cpu.specs.{Claims.Shown, Sound.{after_steps, setup_for}, Table.{Setups.Setup, Steps.{IsReached, Whole, boots, steps_once, system_step}}}
-use Rattle.{cpu.specs.Table.Steps.whole_at_boot, cpu_workers.proofs.Joining.{all_head, all_tail}, mctower.specs.declared.refusals.Refusal.Refusal}
-use Rattle.mctower.specs.{declared.serve.outcomes.Done.Done, Line.{Ghost, check, count, order_of, run, threads}, Output.Output, Serve.{EndsBy, OfBytes}}
-use Rattle.mctower.specs.{Serve.{OfInput, OfPlan, ReportsRun, RunsAsked, ServesBy, ServesPlan, WorksPlan, steps_asked}, ByTable.ProcessesRunTheTable}
-use Rattle.mctower.specs.ByTable.{ReportsTable, RunByTable, RunsAreReached, ThreadsByTable}
+use Rattle.cpu.specs.{Claims.SystemView, Sound.{after_steps, setup_for}, Table.{Setups.SystemConfig, Steps.{IsReached, SystemState, boots, steps_once}}}
+use Rattle.{cpu.specs.Table.Steps.{system_step, whole_at_boot}, cpu_workers.proofs.Joining.{all_head, all_tail}}
+use Rattle.mctower.specs.{declared.{refusals.Refusal.Refusal, serve.outcomes.Done.Done}, Line.{Ghost, check, count, order_of, run, threads}, Output.Output}
+use Rattle.mctower.specs.Serve.{EndsBy, OfBytes, OfInput, OfPlan, ReportsRun, RunsAsked, ServesBy, ServesPlan, WorksPlan, steps_asked}
+use Rattle.mctower.specs.ByTable.{ProcessesRunTheTable, ReportsTable, RunByTable, RunsAreReached, ThreadsByTable}
 
-reported : (plan : BootPlan) (steps : List CpuId) (s : Shown) (answer : Result Done Refusal) (failed : Bool) → ReportsRun plan steps s answer failed
+reported : (plan : BootPlan) (steps : List CpuId) (s : SystemView) (answer : Result Done Refusal) (failed : Bool) → ReportsRun plan steps s answer failed
     → ReportsTable plan steps answer failed
 reported plan steps s answer false (state, of_system, of_table, is) = (state, of_table, is)
 reported plan steps s answer true is = is
@@ -82,7 +82,7 @@ processes_run_the_table (Ok words) input status out err it =
 processes_run_the_table (Err refusal) input status out err it = it
 
 -- steps of a setup's CPUs lead on to states that it reaches
-reached_after : (setup : Setup) (room : ℕ) (steps : List CpuId) (s : Whole) → All (λ c. c.0 < setup.cpus) steps → IsReached setup room s
+reached_after : (setup : SystemConfig) (room : ℕ) (steps : List CpuId) (s : SystemState) → All (λ c. c.0 < setup.cpus) steps → IsReached setup room s
     → IsReached setup room (after_steps setup steps s)
 reached_after setup room [] s known reached = reached
 reached_after setup room (c ∷ steps) s known reached =

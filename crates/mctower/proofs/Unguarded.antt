@@ -2,21 +2,21 @@
 -- whose polls are single actions holds without a condition if they are such layers.
 use Rattle.std.{proofs.Common.{◌≡◌, List, refl}, specs.Prelude.{Result, Ok, Err, IsErrAnd}}
 use Rattle.{event_log.specs.declared.{ids.CpuId.CpuId, refusals.NoMemory.NoMemory as NoMemoryTold}, boot.specs.declared.refusals.BootError.BootError}
-use Rattle.{boot.specs.Plan.{BootPlan, Fails}, cpu.specs.{Claims.Shown, Systems.{Ran, WentOn, goes, took_none, stayed, took}}}
+use Rattle.{boot.specs.Plan.{BootPlan, Fails}, cpu.specs.{Claims.SystemView, Systems.{Ran, WentOn, goes, took_none, stayed, took}}}
 use Rattle.mctower.specs.{declared.{run.run_faults.Fault.{Fault, TheVariants.{NoMemory, WriteFault}}, tell.state_lines.State.State}, Output.IsUntouched}
 use Rattle.mctower.specs.{Output.Output, Plans.from_boot, Running.{IsPrinted, IsRunOf, NoCondition, RunsOverTower, RunsPlan, RunsTextOn}, State.IsStateOf}
 use Rattle.boot.specs.declared.refusals.BootError.TheVariants as refused
 
 module _ (If Where : Type 0) (follows : Where → If) where
-  went : (c : CpuId) (s r : Shown) → WentOn If c s r → WentOn Where c s r
+  went : (c : CpuId) (s r : SystemView) → WentOn If c s r → WentOn Where c s r
   went c s r (took live counted grows now step) = took live counted grows now (λ here. step (follows here))
   went c s r (stayed reason is same) = stayed reason is same
 
-  ran : (start : Shown) (steps : List CpuId) (s : Shown) → Ran If start steps s → Ran Where start steps s
+  ran : (start : SystemView) (steps : List CpuId) (s : SystemView) → Ran If start steps s → Ran Where start steps s
   ran start _ _ took_none = took_none
   ran start _ _ (goes {steps = steps} {s = s} c r before step) = goes c r (ran start steps s before) (went c s r step)
 
-  run_of : (plan : BootPlan) (steps : List CpuId) (s : Shown) → IsRunOf If plan steps s → IsRunOf Where plan steps s
+  run_of : (plan : BootPlan) (steps : List CpuId) (s : SystemView) → IsRunOf If plan steps s → IsRunOf Where plan steps s
   run_of plan steps s is = record {
     start = is.start;
     opened = is.opened;
@@ -28,26 +28,26 @@ module _ (If Where : Type 0) (follows : Where → If) where
     told = λ here. is.told (follows here);
     system = is.system;
     room = is.room;
-    one_order = is.one_order;
+    linearization = is.linearization;
     follow = is.follow;
     stay = is.stay;
     once = is.once;
   }
 
-  printed : (plan : BootPlan) (steps : List CpuId) (s : Shown) (out : Output) → IsPrinted If plan steps s out → IsPrinted Where plan steps s out
+  printed : (plan : BootPlan) (steps : List CpuId) (s : SystemView) (out : Output) → IsPrinted If plan steps s out → IsPrinted Where plan steps s out
   printed plan steps s out is =
       record { cpus = is.cpus; ran = run_of plan steps s is.ran; out = is.out; fifo = is.fifo; in_time = is.in_time; table = λ here. is.table (follows here) }
 
-  runs_plan : (plan : BootPlan) (steps : List CpuId) (result : Result Shown Fault) (out : Output) → RunsPlan If plan steps result out
+  runs_plan : (plan : BootPlan) (steps : List CpuId) (result : Result SystemView Fault) (out : Output) → RunsPlan If plan steps result out
       → RunsPlan Where plan steps result out
   runs_plan plan steps (Ok s) out runs = (runs.0, printed plan steps s out runs.1)
   runs_plan plan steps (Err WriteFault) out runs = (runs.0, (runs.1.0, printed plan steps runs.1.0 out runs.1.1))
   runs_plan plan steps (Err other) out runs = runs
 
-  pub state_of : (s : Shown) (state : State) → IsStateOf If s state → IsStateOf Where s state
+  pub state_of : (s : SystemView) (state : State) → IsStateOf If s state → IsStateOf Where s state
   state_of s state is = assumption (λ (here : Where). is.table (follows here), λ (here : Where). is.still (follows here))
 
-pub runs_alike : (If : Type 0) → If → (plan : BootPlan) (steps : List CpuId) (result : Result Shown Fault) (out : Output)
+pub runs_alike : (If : Type 0) → If → (plan : BootPlan) (steps : List CpuId) (result : Result SystemView Fault) (out : Output)
     → RunsPlan If plan steps result out → RunsTextOn NoCondition (Ok plan) steps result out
 runs_alike If here plan steps result out runs = runs_plan If NoCondition (λ always. here) plan steps result out runs
 

@@ -5,15 +5,15 @@ pub use Rattle.cpu_workers.specs.Counts.{after_round, after_rounds, counting, se
 
 -- this part is the one of the CPU of this number, rests and agrees with the machine
 pub record IsCountReady {P M S : Type 0} (cpu_of : P → CpuId) (under_way : P → Option S)
-    (Fits : P → M → Type 0) (number : ℕ) (part : P)
+    (Coupled : P → M → Type 0) (number : ℕ) (part : P)
     (machine : M) : Type 0 where
   pub cpu : (cpu_of part).0 ≡ number
   pub rests : under_way part ≡ None
-  pub fits : Fits part machine
+  pub coupled : Coupled part machine
 
 -- there is a part for each CPU from 0 on, and each of them is ready
 abbrev pub AreReady : {P M S : Type 0} → (P → CpuId) → (P → Option S) → (P → M → Type 0) → List P
     → M → Type 0
-AreReady cpu_of under_way Fits parts machine =
+AreReady cpu_of under_way Coupled parts machine =
     (i : ℕ) (d : _) → i < length parts
-    → IsCountReady cpu_of under_way Fits i (slice_index_or parts i d) machine
+    → IsCountReady cpu_of under_way Coupled i (slice_index_or parts i d) machine

@@ -3,7 +3,7 @@
 -- table.
 use Rattle.std.specs.{Prelude.{◌≡◌, ℕ, List, Some, Result}, List.AllByRecursion}
 use Rattle.event_log.specs.declared.{entries.Entry.Entry, ids.{CpuId.CpuId, Tid.Tid}}
-use Rattle.event_log.specs.{Messages.Message, Runs.IsRun, Streams.IsFirstInFirstOut}
+use Rattle.event_log.specs.{Messages.Message, Runs.IsLegalHistory, Streams.IsFirstInFirstOut}
 use Rattle.{guest.specs.Calls.AreProgramsCalls, layer_traits.specs.Threads.Places.home_of}
 use Rattle.{boot.specs.Plan.{BootPlan, plan_program_of}, cpu.specs.Boots.homes_for}
 use Rattle.{cpu.specs.Cpus.of_thread, tracer.specs.TraceText.IsTraceText}
@@ -19,7 +19,7 @@ use Rattle.cpu_workers.specs.declared.workers.stops.Stop.{Stop}
 pub record IsHistoryText (plan : BootPlan) (text : List ℕ) : Type 0 where
   pub order : List Entry
   pub left : List (List Message)
-  pub run : IsRun plan.caps order left
+  pub run : IsLegalHistory plan.caps order left
   pub fifo : IsFirstInFirstOut order left
   pub home : AllByRecursion (λ e. home_of (homes_for plan) e.thread ≡ Some e.cpu) order
   pub programs : (t : Tid) (c : CpuId) → home_of (homes_for plan) t ≡ Some c

@@ -3,8 +3,8 @@ use Rattle.std.specs.Prelude.{◌≡◌, ℕ, List, length, map, replicate}
 use Rattle.event_log.specs.declared.ids.CpuId.{CpuId}
 use Rattle.boot.specs.{declared.refusals.BootError.BootError, Plan.{BootPlan, IsPlan}}
 use Rattle.{tracer.specs.declared.gathering.GatherError.GatherError, cpu.specs.Boots.homes_for}
-use Rattle.cpu.specs.{Boots.tables_for, Cpus.programs_of, Claims.{Shown, programs_in}}
-use Rattle.cpu.specs.{Sound.{after_steps, setup_for}, Table.Steps.{Whole, whole_at_boot}}
+use Rattle.cpu.specs.{Boots.tables_for, Cpus.programs_of, Claims.{SystemView, programs_in}}
+use Rattle.cpu.specs.{Sound.{after_steps, setup_for}, Table.Steps.{SystemState, whole_at_boot}}
 use Rattle.mctower.specs.declared.run.run_faults.Fault.{Fault, TheVariants.{NoMemory, Boot}}
 use Rattle.mctower.specs.declared.run.run_faults.Fault.TheVariants.{NoOrder}
 use Rattle.boot.specs.declared.refusals.BootError.TheVariants as refused
@@ -12,7 +12,7 @@ use Rattle.tracer.specs.declared.gathering.GatherError.TheVariants as gathering
 
 -- the system has the CPUs, the threads with their programs, the buffers and the room of each trace
 -- that the plan says
-pub record IsSystemOf (plan : BootPlan) (s : Shown) : Type 0 where
+pub record IsSystemOf (plan : BootPlan) (s : SystemView) : Type 0 where
   pub caps : s.caps ≡ plan.caps
   pub homes : s.homes ≡ homes_for plan
   pub programs : programs_in s ≡ map programs_of (tables_for plan)
@@ -21,20 +21,20 @@ pub record IsSystemOf (plan : BootPlan) (s : Shown) : Type 0 where
 
 -- the step table's system of a plan after these steps, one after the other from boot, with room for
 -- exactly these
-abbrev pub table_run : BootPlan → List CpuId → Whole
+abbrev pub table_run : BootPlan → List CpuId → SystemState
 table_run plan steps =
     after_steps (setup_for plan) steps (whole_at_boot (setup_for plan) (length steps))
 
 -- The system is the plan's before its first step, with room for so many steps. Each home CPU has
 -- its threads' guests, all at their start.
-pub record IsOpened (plan : BootPlan) (room : ℕ) (s : Shown) : Type 0 where
+pub record IsOpened (plan : BootPlan) (room : ℕ) (s : SystemView) : Type 0 where
   pub system : IsSystemOf plan s
   pub guests : map (λ p. p.guests) s.cpus ≡ tables_for plan
   pub room_is : s.room ≡ room
   pub taken : s.taken ≡ 0
 
 -- the system is that of a plan with so many CPUs and threads and these capacities
-pub record IsOfPlan (count : ℕ) (capacities : List ℕ) (s : Shown) : Type 0 where
+pub record IsOfPlan (count : ℕ) (capacities : List ℕ) (s : SystemView) : Type 0 where
   pub plan : BootPlan
   pub within : IsPlan plan
   pub cpus : count ≡ plan.cpus

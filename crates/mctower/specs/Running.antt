@@ -3,8 +3,8 @@
 use Rattle.std.specs.Prelude.{◌≡◌, ℕ, ◌<◌, true, false, List, length, All, Result, Ok, Err}
 use Rattle.event_log.specs.{declared.ids.CpuId.CpuId, Streams.IsFirstInFirstOut}
 use Rattle.boot.specs.declared.{locks.LockKind.LockKind, refusals.BootError.BootError}
-use Rattle.{boot.specs.Plan.BootPlan, cpu.specs.{Linear.IsLinearizable, Claims.FollowPrograms}}
-use Rattle.cpu.specs.Claims.{HasOneOrder, Shown, StandsOnce, StayHome, traces_of}
+use Rattle.{boot.specs.Plan.BootPlan, cpu.specs.{Linear.IsLinearizable, Claims.MatchesPrograms}}
+use Rattle.cpu.specs.Claims.{HasLinearization, SystemView, HasUniquePlace, KeepsAffinity, traces_of}
 use Rattle.cpu.specs.{Sound.{IsSetupFor, SoundByTable, setup_for}, Systems.{Ran, whole_of}}
 use Rattle.{cpu.specs.Observed.ObservedByTable, tracer.specs.Gather.on_buffer}
 use Rattle.mctower.specs.declared.run.run_faults.Fault.{Fault, TheVariants.{NoMemory, Boot, BadCpu}}
@@ -20,9 +20,10 @@ use Rattle.boot.specs.declared.locks.LockKind.TheVariants as kind
 -- one action a step, it is the step table's system of the plan after them, and no wake-up is lost.
 -- Its observers then return what the table has. The invariants that hold after every list of steps
 -- hold of it.
-pub record IsRunOf (IsStepwise : Type 0) (plan : BootPlan) (steps : List CpuId) (s : Shown) : Type
+pub record IsRunOf (IsStepwise : Type 0) (plan : BootPlan) (steps : List CpuId)
+    (s : SystemView) : Type
     0 where
-  pub start : Shown
+  pub start : SystemView
   pub opened : IsOpened plan (length steps) start
   pub ran : Ran IsStepwise start steps s
   pub linear : IsLinearizable start steps s
@@ -32,10 +33,10 @@ pub record IsRunOf (IsStepwise : Type 0) (plan : BootPlan) (steps : List CpuId) 
   pub told : IsStepwise → ObservedByTable s
   pub system : IsSystemOf plan s
   pub room : s.room ≡ length steps
-  pub one_order : HasOneOrder s
-  pub follow : FollowPrograms s
-  pub stay : StayHome s
-  pub once : StandsOnce s
+  pub linearization : HasLinearization s
+  pub follow : MatchesPrograms s
+  pub stay : KeepsAffinity s
+  pub once : HasUniquePlace s
 
 -- every step is of one of so many CPUs
 abbrev pub AreCpus : ℕ → List CpuId → Type 0
@@ -46,7 +47,7 @@ AreCpus cpus steps = All (λ c. c.0 < cpus) steps
 -- what is left. If the machine does one action a step, this is the text of the step table's system
 -- of the plan after these steps. In the text's order the calls of each buffer are in the order in
 -- which they took effect.
-pub record IsPrinted (IsStepwise : Type 0) (plan : BootPlan) (steps : List CpuId) (s : Shown)
+pub record IsPrinted (IsStepwise : Type 0) (plan : BootPlan) (steps : List CpuId) (s : SystemView)
     (printed : Output) : Type 0 where
   pub cpus : AreCpus plan.cpus steps
   pub ran : IsRunOf IsStepwise plan steps s
@@ -57,7 +58,7 @@ pub record IsPrinted (IsStepwise : Type 0) (plan : BootPlan) (steps : List CpuId
 
 -- The result of a run of a plan. A step of a CPU that the plan does not have is rejected before
 -- anything is written. Else the plan's system takes the steps, and its text is written.
-abbrev pub RunsPlan : Type 0 → BootPlan → List CpuId → Result Shown Fault → Output → Type 0
+abbrev pub RunsPlan : Type 0 → BootPlan → List CpuId → Result SystemView Fault → Output → Type 0
 RunsPlan IsStepwise plan steps (Ok s) out =
     (out.failed ≡ false) × IsPrinted IsStepwise plan steps s out
 RunsPlan IsStepwise plan steps (Err (NoMemory refused)) out = IsUntouched out
@@ -65,12 +66,12 @@ RunsPlan IsStepwise plan steps (Err (Boot e)) out = ⊥
 RunsPlan IsStepwise plan steps (Err BadCpu) out = (¬ AreCpus plan.cpus steps) × IsUntouched out
 RunsPlan IsStepwise plan steps (Err NoOrder) out = ⊥
 RunsPlan IsStepwise plan steps (Err WriteFault) out =
-    (out.failed ≡ true) × ((s : Shown) × IsPrinted IsStepwise plan steps s out)
+    (out.failed ≡ true) × ((s : SystemView) × IsPrinted IsStepwise plan steps s out)
 
 -- ---- of a plan's text
 
 -- the result of a run if the plan's text is rejected: that error, before anything is written
-abbrev pub Refuses : BootError → Result Shown Fault → Output → Type 0
+abbrev pub Refuses : BootError → Result SystemView Fault → Output → Type 0
 Refuses e (Ok s) out = ⊥
 Refuses e (Err (NoMemory refused)) out = IsUntouched out
 Refuses e (Err (Boot f)) out = (f ≡ e) × IsUntouched out
@@ -80,7 +81,7 @@ Refuses e (Err WriteFault) out = ⊥
 
 -- the result of a run of a text over these layers, by the text's plan or its first fault, unless
 -- memory ran out
-abbrev pub RunsTextOn : Type 0 → Result BootPlan BootError → List CpuId → Result Shown Fault
+abbrev pub RunsTextOn : Type 0 → Result BootPlan BootError → List CpuId → Result SystemView Fault
     → Output → Type 0
 RunsTextOn IsStepwise (Ok plan) steps result out = RunsPlan IsStepwise plan steps result out
 RunsTextOn IsStepwise (Err e) steps result out = Refuses e result out
@@ -99,12 +100,12 @@ lock_beneath (Ticket s) = kind.Ticket
 lock_beneath (Grant s) = kind.Grant
 
 -- the system after a run, whatever its lock is
-abbrev pub system_of : {I J M N : Type 0} → RanOver I J M N → Shown
+abbrev pub system_of : {I J M N : Type 0} → RanOver I J M N → SystemView
 system_of (Ticket s) = s
 system_of (Grant s) = s
 
 -- a result reduced to its system
-abbrev pub system_in : {I J M N : Type 0} → Result (RanOver I J M N) Fault → Result Shown Fault
+abbrev pub system_in : {I J M N : Type 0} → Result (RanOver I J M N) Fault → Result SystemView Fault
 system_in (Ok ran) = Ok (system_of ran)
 system_in (Err fault) = Err fault
 
@@ -126,7 +127,7 @@ abbrev pub NoCondition : Type 0
 NoCondition = Unit {0}
 
 -- what is reported of a run's result: what the state lines report of its system, or its fault
-abbrev pub Tells : Result Shown Fault → Result State Fault → Type 0
+abbrev pub Tells : Result SystemView Fault → Result State Fault → Type 0
 Tells (Ok s) (Ok state) = IsStateOf NoCondition s state
 Tells (Ok s) (Err fault) = ⊥
 Tells (Err fault) (Ok state) = ⊥
@@ -135,6 +136,6 @@ Tells (Err fault) (Err told) = told ≡ fault
 -- A text was run over layers of which each poll is one action, and this is reported of the result.
 pub record RunsOverTower (read : Result BootPlan BootError) (steps : List CpuId)
     (told : Result State Fault) (printed : Output) : Type 0 where
-  pub answer : Result Shown Fault
+  pub answer : Result SystemView Fault
   pub runs : RunsTextOn NoCondition read steps answer printed
   pub tells : Tells answer told

@@ -24,9 +24,10 @@ use Rattle.mctower.specs.{declared.tell.state_lines.State.State, Running.{AreCpu
 use Rattle.mctower.specs.{Running.NoCondition, Faults.{IsFault, IsWhy}, Help.{help_of, topic_of}}
 use Rattle.mctower.specs.{State.{IsStateOf, text_of_state}, Schedule.steps_of, Tabled.IsStateOfRun}
 use Rattle.mctower.specs.{Tabled.IsTextOfRun, Texts.IsTextOf, Threads.{IsWorkedPlan, stop_text}}
-use Rattle.{cpu.specs.Claims.{Shown, traces_of}, cpu_workers.specs.declared.workers.stops.Stop.Stop}
-use Rattle.cpu_workers.specs.declared.counting.counted.{Counted.Counted, CountedAt.CountedAt}
-use Rattle.cpu_workers.specs.declared.counting.counted.CountedAt.TheVariants.{Machine, Table}
+use Rattle.cpu.specs.Claims.{SystemView, traces_of}
+use Rattle.cpu_workers.specs.declared.{workers.stops.Stop.Stop, counting.counted.Counted.Counted}
+use Rattle.cpu_workers.specs.declared.counting.counted.CountedAt.{CountedAt, TheVariants.Machine}
+use Rattle.cpu_workers.specs.declared.counting.counted.CountedAt.TheVariants.{Table}
 use Rattle.tracer.specs.declared.verdicts.Verdict.TheVariants as verdict
 use Rattle.tracer.specs.Reasons as reasons
 use Rattle.tracer.specs.declared.checking.InputFault.TheVariants as unjudged
@@ -142,7 +143,7 @@ OfInput Means input answer out = RefusedBy lacks_memory answer out
 -- ---- run
 
 -- the report is the system's state, which is that of the step table's system; or the output failed
-abbrev pub ReportsRun : BootPlan → List CpuId → Shown → Result Done Refusal → Bool → Type 0
+abbrev pub ReportsRun : BootPlan → List CpuId → SystemView → Result Done Refusal → Bool → Type 0
 ReportsRun plan steps s answer false =
     (state : State) × IsStateOf NoCondition s state × IsStateOfRun plan steps state
     × (answer ≡ Ok (Ran state))
@@ -150,7 +151,8 @@ ReportsRun plan steps s answer true = answer ≡ Err WriteFault
 
 -- the text is written and flushed, and the report is the system's state; or the output failed, and
 -- a prefix of the text is written
-abbrev pub PutsRun : BootPlan → List CpuId → Shown → List ℕ → Result Done Refusal → Output → Type 0
+abbrev pub PutsRun : BootPlan → List CpuId → SystemView → List ℕ → Result Done Refusal → Output
+    → Type 0
 PutsRun plan steps s text answer out = ReportsRun plan steps s answer out.failed × IsTold out text
 
 -- The plan's system took the steps, by the step table, and its trace text is written. In the text's
@@ -160,7 +162,7 @@ PutsRun plan steps s text answer out = ReportsRun plan steps s answer out.failed
 pub record RunsTrace (plan : BootPlan) (steps : List CpuId) (answer : Result Done Refusal)
     (printed : Output) : Type 0 where
   pub cpus : AreCpus plan.cpus steps
-  pub system : Shown
+  pub system : SystemView
   pub ran : IsRunOf NoCondition plan steps system
   pub trace : List ℕ
   pub traced : IsTextOf plan.caps (traces_of system) system.contents trace

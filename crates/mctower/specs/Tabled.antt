@@ -8,13 +8,13 @@ use Rattle.{event_log.specs.Messages.Message, boot.specs.Plan.BootPlan}
 use Rattle.layer_traits.specs.declared.{calls.Place.Place, steps.Reason.Reason}
 use Rattle.{layer_traits.specs.Polling.Plans.is_in_section, cpu.specs.Claims.{buffer_at, listed}}
 use Rattle.cpu.specs.{Cpus.reason_in, Sound.setup_for, Table.Blocks.{Block, OfBuffer, OfPending}}
-use Rattle.cpu.specs.Table.{Setups.{Private, Setup}, Steps.{Whole, block_at, cpu_numbered}}
-use Rattle.cpu.specs.{Table.Steps.halted_at, Observed.IsPlaceByTable, Wakeups.Quiet.IsQuietTable}
-use Rattle.mctower.specs.{Plans.table_run, State.places_in, Texts.IsTextOf}
-use Rattle.mctower.specs.declared.tell.state_lines.State.{State}
+use Rattle.cpu.specs.Table.{Setups.{CpuLocal, SystemConfig}, Steps.{SystemState, block_at}}
+use Rattle.cpu.specs.{Table.Steps.{cpu_numbered, halted_at}, Observed.IsPlaceByTable}
+use Rattle.{cpu.specs.Wakeups.Quiet.IsQuietTable, mctower.specs.{Plans.table_run, State.places_in}}
+use Rattle.mctower.specs.{Texts.IsTextOf, declared.tell.state_lines.State.State}
 
 -- the traces of the table's CPUs
-abbrev pub traces_at : Whole → List (List Entry)
+abbrev pub traces_at : SystemState → List (List Entry)
 traces_at w = map (λ p. p.trace) w.cpus
 
 -- the messages in a block, front first
@@ -24,16 +24,16 @@ items_held (Some (OfPending threads)) = []
 items_held (Some (OfBuffer k)) = k.items
 
 -- what the table's buffers hold
-abbrev pub contents_at : Setup → Whole → List (List Message)
+abbrev pub contents_at : SystemConfig → SystemState → List (List Message)
 contents_at setup w =
     listed (λ b. items_held (block_at setup (AtBuffer (buffer_at b)) w.log)) 0 (length setup.caps)
 
 -- why a CPU of the table takes no step: nothing stops one that has a section under way
-abbrev pub reason_by : Setup → CpuId → Whole → Option Private → Option Reason
+abbrev pub reason_by : SystemConfig → CpuId → SystemState → Option CpuLocal → Option Reason
 reason_by setup c w None = None
 reason_by setup c w (Some p) = reason_in (is_in_section (phase c w.log)) (halted_at setup c p)
 
-abbrev pub reason_at : Setup → Whole → ℕ → Option Reason
+abbrev pub reason_at : SystemConfig → SystemState → ℕ → Option Reason
 reason_at setup w k = reason_by setup (cpu_numbered k) w (slice_get w.cpus k)
 
 -- this is the trace text of the plan's system in the step table after these steps

@@ -2,7 +2,7 @@
 -- writing it.
 use Rattle.std.specs.Prelude.{◌≡◌, ◌≤◌, ℕ, true, false, List, length, Some, slice_get, Result, Ok}
 use Rattle.std.specs.{Prelude.Err, List.AllByRecursion}
-use Rattle.event_log.specs.{declared.entries.Entry.Entry, Messages.Message, Runs.IsRun}
+use Rattle.event_log.specs.{declared.entries.Entry.Entry, Messages.Message, Runs.IsLegalHistory}
 use Rattle.{event_log.specs.Traces.IsInterleaving, tracer.specs.Gather.{IsOrder, TakesFirstReady}}
 use Rattle.{tracer.specs.TraceText.IsTraceText, boot.specs.Plan.{BootPlan, IsPlan}}
 use Rattle.cpu.specs.{Boots.homes_for, Cpus.IsOfHome}
@@ -25,7 +25,7 @@ pub record HaveText (caps : List ℕ) (traces : List (List Entry)) (left : List 
       → AllByRecursion (IsOfHome (homes_for plan) (record { 0 = c })) trace
   pub order : List Entry
   pub keeps : IsInterleaving traces order
-  pub runs : IsRun caps order left
+  pub runs : IsLegalHistory caps order left
 
 -- The text is the trace text of these capacities, of these traces in one order, and of what is
 -- left. The order always takes the first trace that is ready. It is a legal history that ends in
@@ -35,7 +35,7 @@ pub record IsTextOf (caps : List ℕ) (traces : List (List Entry)) (left : List 
   pub order : List Entry
   pub keeps : IsOrder traces order
   pub first : TakesFirstReady traces order
-  pub run : IsRun caps order left
+  pub run : IsLegalHistory caps order left
   pub spelled : IsTraceText text caps order left
 
 -- this text is written, or a prefix of it if the sink failed

@@ -7,7 +7,7 @@ use Rattle.{boot.specs.Plan.BootPlan, cpu.specs.Sound.setup_for}
 use Rattle.cpu_workers.specs.declared.workers.{gates.Go.{Go, TheVariants.Pass}, stops.Stop.Stop}
 use Rattle.cpu_workers.specs.declared.workers.stops.Stop.TheVariants.{AllEnded, TurnsUsed}
 use Rattle.cpu_workers.specs.declared.workers.stops.Stop.TheVariants.{TraceFull, Held}
-use Rattle.cpu_workers.specs.{Lawful.{IsLawfulReport, ShownReport, left_in}, Logs.HasWords}
+use Rattle.cpu_workers.specs.{Lawful.{IsLawfulReport, ReportView, left_in}, Logs.HasWords}
 use Rattle.mctower.specs.{Running.AreCpus, StateLines.cpu_pieces, Tabled.IsTextOfRun}
 use Rattle.mctower.specs.Texts.{IsTextOf}
 
@@ -44,7 +44,7 @@ pub record IsPrintedByRun (plan : BootPlan) (text : List ℕ) : Type 0 where
 -- the releases of that log. A run of the plan prints the same text.
 pub record IsWorkedPlan (plan : BootPlan) (turns : ℕ) (stops : List Stop) (text : List ℕ) : Type
     0 where
-  pub report : ShownReport
+  pub report : ReportView
   pub words : HasWords plan AlwaysOpen turns report
   pub stops_are : stops ≡ report.stops
   pub is : IsTextOf plan.caps report.traces (left_in (length plan.caps) report) text
@@ -56,7 +56,7 @@ pub record IsWorkedPlan (plan : BootPlan) (turns : ℕ) (stops : List Stop) (tex
 -- actions interleave
 abbrev pub ThreadsPrintARun : Type 0
 ThreadsPrintARun =
-    (plan : BootPlan) (turns : ℕ) (report : ShownReport) (text : List ℕ)
+    (plan : BootPlan) (turns : ℕ) (report : ReportView) (text : List ℕ)
     → IsLawfulReport (setup_for plan) AlwaysOpen turns report
     → IsTextOf plan.caps report.traces (left_in (length plan.caps) report) text
     → IsPrintedByRun plan text

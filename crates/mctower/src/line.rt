@@ -62,7 +62,7 @@ impl From<AllocError> for LineError {
 
 fn needed<'a>(alloc: Global, name: &'a str) -> Arg<'a>
     ensures rule { rule_of result ≡ required_option name.entry.now }
-    ensures local { result.global ≡ false }
+    ensures local_is { result.global ≡ false }
 {
     Arg::new(alloc, name).long(name).required(true)
 }

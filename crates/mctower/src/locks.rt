@@ -15,14 +15,14 @@ use crate::locks::towers::{OverTower, over_sections};
 use boot::LockKind;
 use cpu_workers::{OnLock, by_kind};
 use ipc_calls::{TowerEdit, TowerLockLaws};
-use plain_machine::{LineWords, Plain};
+use plain_machine::{LockQueueWords, Plain};
 use spinlock::Ticket;
 use std::marker::PhantomData;
 
 /// Does the work over the tower on locks with these words.
 ///
 /// Requires: the work may be done over the tower of the kind of lock that has these words.
-fn climb<K: LineWords + OnLock, V: OverTower>(work: &mut V) -> V::Done
+fn climb<K: LockQueueWords + OnLock, V: OverTower>(work: &mut V) -> V::Done
     requires { V.IsReady work.old K.lock_kind }
     ensures { V.Does work.old result work.new }
 {

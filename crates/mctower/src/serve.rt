@@ -19,7 +19,7 @@ use crate::refusals::no_memory::read_refused;
 use crate::refusals::{Refusal, status_of_refusal, worker_refused};
 use crate::run::plan_runs::run_plan;
 use crate::run::run_faults::run_refused;
-use crate::serve::outcomes::{Done, put_out, read_all};
+use crate::serve::outcomes::{Done, read_all, write_output};
 use crate::serve::worker_runs::{serve_threads, write_stops};
 use crate::tell::refusal_lines::write_report;
 use boot::{BootError, LockKind};
@@ -67,7 +67,7 @@ fn serve_count<O: Write, T: Threads + Wait + Sync>(
         table,
         b"\n".as_slice(),
     ];
-    put_out(out, &lines, Done::BothCounted(in_machine, in_table))
+    write_output(out, &lines, Done::BothCounted(in_machine, in_table))
 }
 
 /// Prints a verdict: `yes`, or `no L Name(N)`. Returns the exit status.
@@ -77,7 +77,7 @@ fn print_verdict<O: Write>(verdict: Verdict, out: &mut Sink<O>) -> Result<Done, 
     ensures flushed { IfOk result (λ _. is_flushed out.new ≡ true) }
 {
     match verdict {
-        Verdict::Yes => put_out(out, &[b"yes\n".as_slice()], Done::Exit(0)),
+        Verdict::Yes => write_output(out, &[b"yes\n".as_slice()], Done::Exit(0)),
         Verdict::No(line, reason) => {
             let mut number = Buffer::new();
             let number = number.format(line).as_bytes();
@@ -89,7 +89,7 @@ fn print_verdict<O: Write>(verdict: Verdict, out: &mut Sink<O>) -> Result<Done, 
                 name,
                 b"\n".as_slice(),
             ];
-            put_out(out, &pieces, Done::Exit(3))
+            write_output(out, &pieces, Done::Exit(3))
         }
         Verdict::NoMemory(refused) => Err(Refusal::NoMemory(refused)),
     }
@@ -149,7 +149,7 @@ fn run_bytes<O: Write>(
         return Err(Refusal::Plan(BootError::BadToml));
     };
     match run_plan(alloc, plan, steps, out) {
-        Ok(state) => put_out(out, &[], Done::Ran(state)),
+        Ok(state) => write_output(out, &[], Done::Ran(state)),
         Err(fault) => Err(run_refused(fault)),
     }
 }
@@ -195,10 +195,10 @@ fn serve_no_order<O: Write>(
     match why_no_order(alloc, words) {
         Ok(NoOrder::AsksHelp) => {
             let help = help_on(words).as_bytes();
-            put_out(out, &[name, version, b"\n".as_slice(), help], Done::Exit(2))
+            write_output(out, &[name, version, b"\n".as_slice(), help], Done::Exit(2))
         }
         Ok(NoOrder::AsksVersion) => {
-            put_out(out, &[name, version, b"\n".as_slice()], Done::Exit(2))
+            write_output(out, &[name, version, b"\n".as_slice()], Done::Exit(2))
         }
         Ok(NoOrder::Faulty(fault)) => Err(Refusal::BadLine(fault)),
         Err(refused) => Err(Refusal::NoMemory(refused)),

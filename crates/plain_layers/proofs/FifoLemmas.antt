@@ -10,7 +10,7 @@ use Rattle.layer_traits.specs.declared.{calls.{Effect.Effect, Reply.Reply, Reply
 use Rattle.layer_traits.specs.declared.{call_states.{Stage.TheVariants.Idle, CallState.CallState}, passes.Pass.Pass, queue_edits.QueueBlock.QueueBlock}
 use Rattle.layer_traits.specs.{declared.sleeps.Outcome.Outcome, Layers.BufferLaw.{Called, IsEffectOf, IsRefused, MayPollCall, answer_in, buffer_of, entry_of}}
 use Rattle.layer_traits.specs.Layers.{BufferLaw.{going, no_call, call_state_of, reply_with, MovesGrow, OthersSeen}, Queues.{call_move, out_at, IsKnownEvent}}
-use Rattle.layer_traits.specs.Layers.{Queues.{Kernel, buffer_sections, moves_in}, Sleeping.{sleep_answer, NobodySleeps}, SleepLaw.{Sleeping, done_if}}
+use Rattle.layer_traits.specs.Layers.{Queues.{Kernel, buffer_sections, moves_in}, Sleeping.{sleep_answer, NoSleepers}, SleepLaw.{Sleeping, done_if}}
 use Rattle.layer_traits.specs.{Layers.{SleepLaw.sleep_kernel, Scheds.{SchedPolled, events_of, pass_call}}, Threads.Passes.{own_slept, queue_for, PassPolled}}
 use Rattle.layer_traits.{specs.Threads.Places.{AreMoves, Pushed, Stands, Step, step_with, Threads}, proofs.PlaceLemmas.{current_at, woken_current}}
 use Rattle.{layer_traits.proofs.{CallLemmas.pass_polled, SleepLemmas.done_same, Seen.lawful_rest}, plain_layers.specs.Fifos.{plain_shown, attempt_of}}
@@ -30,7 +30,7 @@ no_events k [] none = refl
 no_events k (e ∷ past) none = absurd (cc none)
 
 -- no thread waits at fresh buffers
-pub nobody_waits : (caps : List ℕ) (locks : LockId → Option PlainLocked) → locks ≡ fresh_buffers caps → NobodySleeps locks
+pub nobody_waits : (caps : List ℕ) (locks : LockId → Option PlainLocked) → locks ≡ fresh_buffers caps → NoSleepers locks
 nobody_waits caps locks fresh lock wait_list = grind arith
 
 -- a machine keeps its one holder
@@ -42,13 +42,13 @@ owned_after ActsFor Acts opening opening' same acts owned = record { all = λ c 
 
 -- a poll of a pass by a holder that acts for every CPU
 pub record PolledAlone (opening : LockId → Option (QueueBlock PlainLocked)) (ActsFor : CpuId → Type 0) (c : CpuId) (p : Pass) (result : Option (Unit {0}))
-    (old new : List (QueueEvent Attempt)) (own own' : Threads) : Type 0 where
+    (old new : List (QueueEvent Attempt)) (local local' : Threads) : Type 0 where
   pub all : (d : CpuId) → d.0 < CPUS → ActsFor d
   pub known : IsLawful IsKnownEvent new
-  pub polled : SchedPolled (sleep_kernel attempts opening) ActsFor c (sched.Pass p) (done_if result) old new own own'
+  pub polled : SchedPolled (sleep_kernel attempts opening) ActsFor c (sched.Pass p) (done_if result) old new local local'
 
 module _ (opening : LockId → Option (QueueBlock PlainLocked)) (ActsFor : CpuId → Type 0) (c : CpuId) (p : Pass) (result : Option (Unit {0}))
-    (old new : List (QueueEvent Attempt)) (own own' : Threads) (alone : PolledAlone opening ActsFor c p result old new own own') where
+    (old new : List (QueueEvent Attempt)) (local local' : Threads) (alone : PolledAlone opening ActsFor c p result old new local local') where
   nobody : (b : Bool) → new ≡ (if b then events_of c (pass_call (homes_in opening) c p) ++ (alone.polled.others ++ old) else alone.polled.others ++ old)
       → alone.polled.others ≡ []
   nobody true is = no_foreign_events ActsFor alone.all alone.polled.others old
@@ -72,16 +72,16 @@ module _ (opening : LockId → Option (QueueBlock PlainLocked)) (ActsFor : CpuId
 
   -- and is a pass in moves
   pub passed_moves : (Acts : CpuId → Type 0) → ((d : CpuId) → Acts d → ActsFor d)
-      → PassPolled (homes_in opening) Acts c p result (moves_in (sleep_kernel attempts opening) old) (moves_in (sleep_kernel attempts opening) new) own own'
+      → PassPolled (homes_in opening) Acts c p result (moves_in (sleep_kernel attempts opening) old) (moves_in (sleep_kernel attempts opening) new) local local'
   passed_moves Acts weaker =
-      let moved = pass_polled (sleep_kernel attempts opening) ActsFor c p (done_if result) old new own own' alone.polled in
+      let moved = pass_polled (sleep_kernel attempts opening) ActsFor c p (done_if result) old new local local' alone.polled in
       let same : is_some (done_if {O = Outcome Tried} result) ≡ is_some result = done_same (Outcome Tried) result in
       record {
         others = moved.others;
         foreign = λ d acts. moved.foreign d (weaker d acts);
         is = rw (← same) moved.is;
         after = rw (← same) moved.after;
-        at_once = λ local. sym same ∙ moved.at_once local;
+        at_once = λ local_is. sym same ∙ moved.at_once local_is;
       }
 
 -- a poll that returned a result leaves nothing under way
@@ -103,18 +103,18 @@ set_waits call_states t call effect within waits u = grind (arith, eqb-true, get
 -- A poll of a call.
 
 -- a running thread is one of the threads that a machine may have
-pub runs_small : (homes : List CpuId) (c : CpuId) (moves : List Step) (own : Threads) → AreMoves homes moves → Stands homes c moves own
-    → length homes ≤ THREADS → (t : Tid) → own.current ≡ Some t → t.0 < THREADS
-runs_small homes c moves own legal stands room t runs =
-    let within = slice_get_within homes t.0 c (current_at homes c moves own legal stands t runs).0 in
+pub runs_small : (homes : List CpuId) (c : CpuId) (moves : List Step) (local : Threads) → AreMoves homes moves → Stands homes c moves local
+    → length homes ≤ THREADS → (t : Tid) → local.current ≡ Some t → t.0 < THREADS
+runs_small homes c moves local legal stands room t runs =
+    let within = slice_get_within homes t.0 c (current_at homes c moves local legal stands t runs).0 in
     omega (arith, within, room)
 
 effect_kinds : (t : Tid) (call : Call) (x : PlainState) (f : Effect) → effect_in (attempt_told (attempt_of t call) x) ≡ Some f → IsEffectOf call f
 effect_kinds t call x f is = grind arith
 
 -- a thread that had no effect sleeps
-slept_current : (out : Tried) (own : Threads) → effect_in out ≡ None → (own_slept (wait_list_by out) own).current ≡ None
-slept_current out own given = grind arith
+slept_current : (out : Tried) (local : Threads) → effect_in out ≡ None → (own_slept (wait_list_by out) local).current ≡ None
+slept_current out local given = grind arith
 
 -- a call without a reply had no effect
 pub reply_none : (call : Call) (effect : Option Effect) → reply_to call effect ≡ None → effect ≡ None
@@ -125,10 +125,10 @@ reply_none call effect given = grind arith
 pub reply_left : (call_states : List CallState) (t : Tid) (call : Call) (effect : Option Effect) (kind : Option ReplyKind) → t.0 < length call_states
     → option_map (λ k. reply_with k effect) kind ≡ reply_to call effect
     → answer_in (slice_set call_states t.0 (call_state_after call effect)) t kind ≡ reply_to call effect
-reply_left call_states t call effect kind within told = grind (arith, get_or-set_same)
+reply_left call_states t call effect kind within abstract_answer = grind (arith, get_or-set_same)
 
-module _ (opening : LockId → Option (QueueBlock PlainLocked)) (c : CpuId) (b : BufId) (a : Attempt) (old new : List (QueueEvent Attempt)) (own : Threads)
-    (left : Sleeping Tried) (outcome : Outcome Tried) (done : IsDoneWhole (asked_edit (sleep_kernel attempts opening) c b a) old new own left outcome) where
+module _ (opening : LockId → Option (QueueBlock PlainLocked)) (c : CpuId) (b : BufId) (a : Attempt) (old new : List (QueueEvent Attempt)) (local : Threads)
+    (left : Sleeping Tried) (outcome : Outcome Tried) (done : IsDoneWhole (asked_edit (sleep_kernel attempts opening) c b a) old new local left outcome) where
   out_is : out_at (sleep_kernel attempts opening) old b a ≡ Some outcome
   out_is = grind arith
 
@@ -153,13 +153,13 @@ module _ (opening : LockId → Option (QueueBlock PlainLocked)) (c : CpuId) (b :
       let moves = moves_in (sleep_kernel attempts opening) in
       let mine = step_with c (call_move (sleep_kernel attempts opening) old (OnBuffer b a)) in
       elim done [
-        | inl alone ↦ record { others = []; mine = mine ∷ []; foreign = λ d acts. tt; own = (refl, tt); is = ap moves alone.seen }
+        | inl alone ↦ record { others = []; mine = mine ∷ []; foreign = λ d acts. tt; local = (refl, tt); is = ap moves alone.history }
         | inr sending ↦ record {
           others = [];
           mine = step_with c (Pushed (queue_for (homes_in opening) c sending.woken) sending.woken) ∷ mine ∷ [];
           foreign = λ d acts. tt;
-          own = (refl, (refl, tt));
-          is = ap moves sending.seen;
+          local = (refl, (refl, tt));
+          is = ap moves sending.history;
         }
       ]
 

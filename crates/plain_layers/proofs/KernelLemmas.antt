@@ -9,11 +9,12 @@ use Rattle.{thread_blocks.specs.Queues.is_in, layer_traits.specs.declared.queue_
 use Rattle.layer_traits.specs.declared.{queue_edits.QueueAnswer.{QueueAnswer, TheVariants.{Taken, Answer}}, payloads.Payload.Payload}
 use Rattle.layer_traits.specs.declared.{scheds.SchedCall.SchedCall, queues.QueueCall.{QueueCall, TheVariants.{Push, TakeAll, OnBuffer}}}
 use Rattle.layer_traits.specs.{declared.queues.QueueEvent.QueueEvent, Threads.{MoveRules.{MoveRules, WakesSleepers, edit_move}, Places.pending_after}}
-use Rattle.layer_traits.specs.{Threads.Places.pending_by, Blocks.{Payloads.{call_meant, sched_meant}, QueueBlocks.{StartsAs, above_of, homes_in, homes_of}}}
-use Rattle.layer_traits.specs.{Blocks.QueueBlocks.inner, Protocols.Protocol.Rules, Layers.Queues.{CallAllowed, Kernel, answer_of, buffer_sections, event}}
-use Rattle.layer_traits.{specs.Layers.{Queues.{kernel, lock_of, moves_in, out_at}, Scheds.BufferIsThere}, proofs.{Alone.block_there, CallLemmas.moves_lawful}}
-use Rattle.{layer_traits.proofs.NestedLemmas.{push_known, push_new}, plain_layers.specs.{declared.kernel.{Lists.Lists, Opening.Opening}, Kernels.CanDo}}
-use Rattle.{plain_layers.specs.Kernels.{IsDone, IsKernel, SetsBlock, SetsQueue, opening_of, pending_in}, shared_queue.specs.Opening.AreQueues}
+use Rattle.layer_traits.specs.{Threads.Places.pending_by, Blocks.{Payloads.{abstract_queue_call, abstract_sched_call}, QueueBlocks.{StartsAs, above_of}}}
+use Rattle.layer_traits.specs.{Blocks.QueueBlocks.{homes_in, homes_of, inner}, Protocols.Protocol.Rules, Layers.Queues.{CallAllowed, Kernel, answer_of}}
+use Rattle.layer_traits.{specs.Layers.{Queues.{buffer_sections, event, kernel, lock_of, moves_in, out_at}, Scheds.BufferIsThere}, proofs.Alone.block_there}
+use Rattle.{layer_traits.proofs.{CallLemmas.moves_lawful, NestedLemmas.{push_known, push_new}}, plain_layers.specs.declared.kernel.Lists.Lists}
+use Rattle.plain_layers.specs.{declared.kernel.Opening.Opening, Kernels.{CanDo, IsDone, IsKernel, SetsBlock, SetsQueue, opening_of, pending_in}}
+use Rattle.shared_queue.specs.Opening.{AreQueues}
 use Rattle.layer_traits.specs.declared.scheds.SchedCall.TheVariants as sched
 
 -- a list of events that has grown by one, newest first
@@ -21,18 +22,19 @@ pub log_grown : {A F X : Type 0} (r : Result A F) (a : A) (old new : List X) (x 
 log_grown r a old new x is pushed = ap reverse (subst (λ o. OnOk o (new ≡ old ++ x ∷ [])) is pushed) ∙ reverse-append old (x ∷ [])
 
 -- the handed part of a call names the lock of the call that it means
-pub lock_handed : {H E : Type 0} (meant : H → Payload → E) (call : QueueCall H) (payload : Payload) → lock_of (call_meant meant call payload) ≡ lock_of call
-lock_handed meant call payload = grind arith
+pub lock_handed : {H E : Type 0} (abstract_call : H → Payload → E) (call : QueueCall H) (payload : Payload)
+    → lock_of (abstract_queue_call abstract_call call payload) ≡ lock_of call
+lock_handed abstract_call call payload = grind arith
 
 -- the buffer of a scheduler's call exists if that of its handed part does
-pub there_meant : {H E B : Type 0} (meant : H → Payload → E) (opening : LockId → Option (QueueBlock B)) (call : SchedCall H) (payload : Payload)
-    → BufferIsThere opening call → BufferIsThere opening (sched_meant meant call payload)
-there_meant meant opening call payload there = grind arith
+pub there_meant : {H E B : Type 0} (abstract_call : H → Payload → E) (opening : LockId → Option (QueueBlock B)) (call : SchedCall H) (payload : Payload)
+    → BufferIsThere opening call → BufferIsThere opening (abstract_sched_call abstract_call call payload)
+there_meant abstract_call opening call payload there = grind arith
 
 -- the handed part of a call can be done if the call that it means can
-pub can_handed : {H E B : Type 0} (meant : H → Payload → E) (call : QueueCall H) (payload : Payload) (lists : Lists B)
-    → CanDo (call_meant meant call payload) lists → CanDo call lists
-can_handed meant call payload lists can = grind arith
+pub can_handed : {H E B : Type 0} (abstract_call : H → Payload → E) (call : QueueCall H) (payload : Payload) (lists : Lists B)
+    → CanDo (abstract_queue_call abstract_call call payload) lists → CanDo call lists
+can_handed abstract_call call payload lists can = grind arith
 
 not_equal : (i j : ℕ) → (i == j) ≡ false → i ≢ j
 not_equal i j other same = let equal : (i == j) ≡ true = eq-eqb i j same in absurd (cc (equal, other))
@@ -47,10 +49,10 @@ repeated n i x within =
     let long = length-replicate n x in
     slice_get-get_or (replicate n x) i x (omega (arith, within, long)) ∙ ap Some (get_or-replicate n i x x within)
 
-module _ {E B O : Type 0} (rules : Rules E B O) (mv : MoveRules E O) (wakes : WakesSleepers rules mv) (start : Opening B) (past : List (QueueEvent E))
-    (lists : Lists B) (sound : IsKernel rules mv start past lists) where
+module _ {E B O : Type 0} (protocol : Rules E B O) (mv : MoveRules E O) (wakes : WakesSleepers protocol mv) (start : Opening B) (past : List (QueueEvent E))
+    (lists : Lists B) (sound : IsKernel protocol mv start past lists) where
   abbrev K : Kernel E B O
-  K = kernel rules mv (opening_of start)
+  K = kernel protocol mv (opening_of start)
 
   -- a queue that opened is there, and holds the threads that the moves leave pending
   queue_is : (d : CpuId) → IsSome (opening_of start (Pending d)) → slice_get lists.pending.items d.0 ≡ Some (pending_by (moves_in K past) d)
@@ -64,7 +66,7 @@ module _ {E B O : Type 0} (rules : Rules E B O) (mv : MoveRules E O) (wakes : Wa
 
   -- a buffer that opened has its block
   block_some : (b : BufId) → IsSome (opening_of start (Buffer b))
-      → IsSome (block_after rules.edited (inner (opening_of start)) (Buffer b) (buffer_sections past))
+      → IsSome (block_after protocol.edited (inner (opening_of start)) (Buffer b) (buffer_sections past))
   block_some b there = grind (arith, block_there)
 
   block_within : (b : BufId) → IsSome (opening_of start (Buffer b)) → b.0 < length lists.buffers.items
@@ -74,8 +76,8 @@ module _ {E B O : Type 0} (rules : Rules E B O) (mv : MoveRules E O) (wakes : Wa
   pub can_do : (c : CpuId) (call : QueueCall E) → IsSome (opening_of start (lock_of call)) → CallAllowed K past c call → CanDo call lists
   can_do c (Push d t) there allowed = (
     queue_within d there,
-    push_known rules mv (opening_of start) sound.starts past c d t allowed,
-    ap (is_in t) (pending_is d there) ∙ push_new rules mv (opening_of start) sound.starts past (moves_lawful K wakes past sound.lawful) c d d t allowed,
+    push_known protocol mv (opening_of start) sound.starts past c d t allowed,
+    ap (is_in t) (pending_is d there) ∙ push_new protocol mv (opening_of start) sound.starts past (moves_lawful K wakes past sound.lawful) c d d t allowed,
   )
   can_do c (TakeAll d) there allowed = queue_within d there
   can_do c (OnBuffer b e) there allowed = block_within b there
@@ -95,19 +97,20 @@ module _ {E B O : Type 0} (rules : Rules E B O) (mv : MoveRules E O) (wakes : Wa
 
   -- the blocks after one was edited
   blocks_set : (b : BufId) (e : E) (block : B) (c : CpuId) (new : Lists B) → slice_get lists.buffers.items b.0 ≡ Some block
-      → new.buffers.items ≡ slice_set lists.buffers.items b.0 (rules.edited e block) → (at : BufId)
-      → slice_get new.buffers.items at.0 ≡ block_after rules.edited (inner (opening_of start)) (Buffer at) (buffer_sections (event c (OnBuffer b e) ∷ past))
+      → new.buffers.items ≡ slice_set lists.buffers.items b.0 (protocol.edited e block) → (at : BufId)
+      → slice_get new.buffers.items at.0 ≡ block_after protocol.edited (inner (opening_of start)) (Buffer at) (buffer_sections (event c (OnBuffer b e) ∷ past))
   blocks_set b e block c new was sets at = grind (arith, eqb-true, set_there, slice_get_within, set_else, not_equal)
 
   -- what was done at a block that is there
   done_block : (b : BufId) (e : E) (new : Lists B) (answer : QueueAnswer O) → IsSome (opening_of start (Buffer b))
-      → IsDone rules (OnBuffer b e) lists new answer
-      → (block : B) × (slice_get lists.buffers.items b.0 ≡ Some block) × SetsBlock b (rules.edited e block) lists new × (answer ≡ Answer (rules.answer e block))
+      → IsDone protocol (OnBuffer b e) lists new answer
+      → (block : B) × (slice_get lists.buffers.items b.0 ≡ Some block) × SetsBlock b (protocol.edited e block) lists new
+      × (answer ≡ Answer (protocol.answer e block))
   done_block b e new answer there done = grind (arith, block_some, sound.blocks)
 
   -- a call that was done keeps the lists in agreement
   pub kernel_after : (c : CpuId) (call : QueueCall E) (new : Lists B) (answer : QueueAnswer O) → c.0 < CPUS → IsSome (opening_of start (lock_of call))
-      → CallAllowed K past c call → IsDone rules call lists new answer → IsKernel rules mv start (event c call ∷ past) new
+      → CallAllowed K past c call → IsDone protocol call lists new answer → IsKernel protocol mv start (event c call ∷ past) new
   kernel_after c (Push d t) new answer known there allowed done = record {
     starts = sound.starts;
     lawful = (allowed, sound.lawful);
@@ -137,19 +140,19 @@ module _ {E B O : Type 0} (rules : Rules E B O) (mv : MoveRules E O) (wakes : Wa
 
   -- and its result is that of the calls
   pub kernel_answers : (call : QueueCall E) (new : Lists B) (answer : QueueAnswer O) → IsSome (opening_of start (lock_of call))
-      → IsDone rules call lists new answer → answer_of K past call ≡ Some answer
+      → IsDone protocol call lists new answer → answer_of K past call ≡ Some answer
   kernel_answers (Push d t) new answer there done = ap Some (sym done.1)
   kernel_answers (TakeAll d) new answer there done = ap (λ queue. Some (Taken queue)) (sym (pending_is d there)) ∙ ap Some (sym done.1)
   kernel_answers (OnBuffer b e) new answer there done =
       let was = done_block b e new answer there done in
-      ap (λ o. option_map Answer (option_map (rules.answer e) o)) (sym (sound.blocks b) ∙ was.1) ∙ ap Some (sym was.3)
+      ap (λ o. option_map Answer (option_map (protocol.answer e) o)) (sym (sound.blocks b) ∙ was.1) ∙ ap Some (sym was.3)
 
 -- a machine opens with these lists and homes, and no thread is pending
 pub record OpensWith {B : Type 0} (start : Opening B) (lists : Lists B) (cpus : ℕ) (homes : List CpuId) : Type 0 where
   pub buffers : ℕ
   pub are : AreQueues cpus homes buffers
   pub opened : start.lists.value ≡ lists
-  pub told : start.homes.value.items ≡ homes
+  pub abstract_answer : start.homes.value.items ≡ homes
   pub empty : lists.pending.items ≡ replicate cpus []
 
 module _ {B : Type 0} (start : Opening B) (lists : Lists B) (cpus : ℕ) (homes : List CpuId) (opens : OpensWith start lists cpus homes) where
@@ -160,7 +163,7 @@ module _ {B : Type 0} (start : Opening B) (lists : Lists B) (cpus : ℕ) (homes 
   queue_is_there c within = subst (λ x. IsSome x) (sym (queue_opens c within)) refl
 
   pub homes_read : homes_in (opening_of start) ≡ homes
-  homes_read = ap homes_of (queue_opens (record { 0 = 0 }) opens.are.some) ∙ opens.told
+  homes_read = ap homes_of (queue_opens (record { 0 = 0 }) opens.are.some) ∙ opens.abstract_answer
 
   abbrev nobody : List Tid
   nobody = []
@@ -182,8 +185,8 @@ module _ {B : Type 0} (start : Opening B) (lists : Lists B) (cpus : ℕ) (homes 
   buffer_opens b = grind (arith, opens.opened)
 
   -- a machine opens sound
-  pub kernel_fresh : {E O : Type 0} (rules : Rules E B O) (mv : MoveRules E O) → IsKernel rules mv start [] lists
-  kernel_fresh rules mv = record {
+  pub kernel_fresh : {E O : Type 0} (protocol : Rules E B O) (mv : MoveRules E O) → IsKernel protocol mv start [] lists
+  kernel_fresh protocol mv = record {
     starts = record {
       kinds = kinds;
       queues = λ t home is. queue_is_there home (grind (arith, homes_read, slice_get_within, get_or_from_slice_get, opens.are.within));

@@ -51,8 +51,8 @@ module _ {B : Type 0} (lock : LockId) where
       → (l : LockId) → opened (slice_set blocks n (o.0, block)) l ≡ (if same_lock l lock then option_map f (opened blocks l) else opened blocks l)
   slot_edited f n blocks o block at is edits l = grind (arith, slot_reads, slot_set, same_lock_true)
 
-module _ {E B O : Type 0} (rules : Rules E B O) (opening : LockId → Option B) (past : List (Section E)) (list : List (LockId × B))
-    (table : IsTable rules opening past list) (lock : LockId) where
+module _ {E B O : Type 0} (protocol : Rules E B O) (opening : LockId → Option B) (past : List (Section E)) (list : List (LockId × B))
+    (table : IsTable protocol opening past list) (lock : LockId) where
   -- a lock that opened with a block has one in the list
   pub block_is_there : IsSome (opening lock) → IsSome (opened list lock)
-  block_is_there there = rw table.blocks (block_there rules.edited opening lock past there)
+  block_is_there there = rw table.blocks (block_there protocol.edited opening lock past there)

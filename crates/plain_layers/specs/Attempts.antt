@@ -94,7 +94,8 @@ closed_after Close x = true
 -- The side of which an effect wakes the first thread, if one waits there. It is the other side; if
 -- the buffer is closed, its own side as long as a thread waits on that.
 abbrev pub waking_by : Bool → Side → PlainState → Side
-waking_by closed own x = if closed && is_some (first (waiting_on own x)) then own else far_side own
+waking_by closed local x =
+    if closed && is_some (first (waiting_on local x)) then local else far_side local
 
 abbrev pub waking : Ask → PlainState → Side
 waking ask x = waking_by (closed_after ask x) (attempt_side ask) x

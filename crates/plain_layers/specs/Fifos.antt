@@ -110,10 +110,10 @@ pub record IsOwned (ActsFor : CpuId → Type 0)
 
 -- between its polls a part has nothing begun; and a thread has an effect only after its call is
 -- over
-pub record RestsBetweenPolls (under : Option (SchedCall Attempt)) (own : Sleeping Tried)
+pub record RestsBetweenPolls (under : Option (SchedCall Attempt)) (local : Sleeping Tried)
     (call_states : List CallState) : Type 0 where
   pub none : under ≡ None
-  pub deferred : own.deferred ≡ None
+  pub deferred : local.deferred ≡ None
   pub waits : (t : Tid) → (call_state_of call_states t).stage ≢ Idle
       → (call_state_of call_states t).effect ≡ None
   pub slots : length call_states ≡ THREADS

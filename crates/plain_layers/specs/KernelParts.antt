@@ -10,5 +10,6 @@ use Rattle.{plain_layers.specs.Kernels.{calls_in, opening_of}, scheduler.specs.P
 -- with the machine
 abbrev pub HasThreads : {E B O H A : Type 0} → Rules E B O → MoveRules E O → PlainKernel E B O H A
     → CpuId → List CpuId → Threads → Type 0
-HasThreads rules mv m c homes own = (c.0 < CPUS) × IsKernel rules mv m.opening (calls_in m) m.lists
-    × SchedPartFits rules mv (opening_of m.opening) c c homes None (calls_in m) own
+HasThreads protocol mv m c homes local =
+    (c.0 < CPUS) × IsKernel protocol mv m.opening (calls_in m) m.lists
+    × SchedPartFits protocol mv (opening_of m.opening) c c homes None (calls_in m) local

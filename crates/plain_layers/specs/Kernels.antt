@@ -60,31 +60,33 @@ SetsBlock b block old new =
 -- a call was done on the lists, with this result
 abbrev pub IsDone : {E B O : Type 0} → Rules E B O → QueueCall E → Lists B → Lists B → QueueAnswer O
     → Type 0
-IsDone rules (Push d t) old new answer =
+IsDone protocol (Push d t) old new answer =
     SetsQueue d (pending_in old d ++ t ∷ []) old new × (answer ≡ Done)
-IsDone rules (TakeAll d) old new answer =
+IsDone protocol (TakeAll d) old new answer =
     SetsQueue d [] old new × (answer ≡ Taken (pending_in old d))
-IsDone rules (OnBuffer b e) old new answer =
+IsDone protocol (OnBuffer b e) old new answer =
     IfSome (slice_get old.buffers.items b.0)
-    (λ block. SetsBlock b (rules.edited e block) old new × (answer ≡ Answer (rules.answer e block)))
+    (λ block. SetsBlock b (protocol.edited e block) old new
+    × (answer ≡ Answer (protocol.answer e block)))
 
 -- a machine is sound: it opened well formed, its calls kept the protocol, and its lists are those
 -- that they leave
-pub record IsKernel {E B O : Type 0} (rules : Rules E B O) (mv : MoveRules E O) (start : Opening B)
+pub record IsKernel {E B O : Type 0} (protocol : Rules E B O) (mv : MoveRules E O)
+    (start : Opening B)
     (past : List (QueueEvent E)) (lists : Lists B) : Type 0 where
   pub starts : StartsWell (opening_of start)
-  pub lawful : IsLawful (QueueAllowed (kernel rules mv (opening_of start))) past
+  pub lawful : IsLawful (QueueAllowed (kernel protocol mv (opening_of start))) past
   pub known : IsLawful IsKnownEvent past
   pub queues : (d : CpuId) → slice_get lists.pending.items d.0
-      ≡ option_map (λ queue. pending_by (moves_in (kernel rules mv (opening_of start)) past) d)
+      ≡ option_map (λ queue. pending_by (moves_in (kernel protocol mv (opening_of start)) past) d)
       (slice_get start.lists.value.pending.items d.0)
   pub blocks : (b : BufId) → slice_get lists.buffers.items b.0
-      ≡ block_after rules.edited (inner (opening_of start)) (Buffer b) (buffer_sections past)
+      ≡ block_after protocol.edited (inner (opening_of start)) (Buffer b) (buffer_sections past)
 
 -- a machine is sound, and this is a CPU for which its holder acts
 abbrev pub HasKernel : {E B O H A : Type 0} → Rules E B O → MoveRules E O → PlainKernel E B O H A
     → CpuId → Type 0
-HasKernel rules mv m c = (c.0 < CPUS) × IsKernel rules mv m.opening (calls_in m) m.lists
+HasKernel protocol mv m c = (c.0 < CPUS) × IsKernel protocol mv m.opening (calls_in m) m.lists
 
 -- no client distinguishes machines, so no numbers identify one
 abbrev pub no_site : List ℕ

@@ -23,11 +23,11 @@ abbrev pub room_in : {E B O H A : Type 0} → LockTable E B O H A → ℕ
 room_in m = room_of m.log - length (events_in m.log)
 
 -- the sections kept the protocol, and the list has the block of each lock that they leave
-pub record IsTable {E B O : Type 0} (rules : Rules E B O) (opening : LockId → Option B)
+pub record IsTable {E B O : Type 0} (protocol : Rules E B O) (opening : LockId → Option B)
     (past : List (Section E)) (list : List (LockId × B)) : Type 0 where
-  pub lawful : IsLawful (rules.allowed opening) past
+  pub lawful : IsLawful (protocol.allowed opening) past
   pub known : IsLawful IsKnown past
-  pub blocks : (lock : LockId) → opened list lock ≡ block_after rules.edited opening lock past
+  pub blocks : (lock : LockId) → opened list lock ≡ block_after protocol.edited opening lock past
 
 -- the first entry of the list that names this lock is the one at this slot
 abbrev pub IsSlot : {B : Type 0} → LockId → ℕ → List (LockId × B) → Type 0

@@ -23,17 +23,17 @@ abbrev pub asked_edit : {E B O : Type 0} → Kernel E B (Outcome O) → CpuId �
 asked_edit kernel cpu buffer edit =
     record { kernel = kernel; cpu = cpu; buffer = buffer; edit = edit }
 
-module _ {E B O : Type 0} (s : Asked E B O) (old new : List (QueueEvent E)) (own : Threads)
+module _ {E B O : Type 0} (s : Asked E B O) (old new : List (QueueEvent E)) (local : Threads)
     (left : Sleeping O) (outcome : Outcome O) where
   -- the CPU's scheduling state after the section
   abbrev pub own_done : Threads
-  own_done = own_answered s.kernel.moves s.kernel.homes s.cpu (Some outcome) own
+  own_done = own_answered s.kernel.moves s.kernel.homes s.cpu (Some outcome) local
 
   -- the section was done, and no thread had to be forwarded
   pub record DoneAlone : Type 0 where
     pub out : out_at s.kernel old s.buffer s.edit ≡ Some outcome
     pub stays : must_send outcome own_done ≡ false
-    pub seen : new ≡ event s.cpu (OnBuffer s.buffer s.edit) ∷ old
+    pub history : new ≡ event s.cpu (OnBuffer s.buffer s.edit) ∷ old
     pub leaves : left ≡ record { threads = own_done; deferred = None }
 
   -- the section was done, and then the thread that it woke was forwarded to its home CPU
@@ -42,7 +42,7 @@ module _ {E B O : Type 0} (s : Asked E B O) (old new : List (QueueEvent E)) (own
     pub sends : must_send outcome own_done ≡ true
     pub woken : Tid
     pub hand : own_done.hand ≡ Some woken
-    pub seen : new ≡ event s.cpu (Push (queue_for s.kernel.homes s.cpu woken) woken)
+    pub history : new ≡ event s.cpu (Push (queue_for s.kernel.homes s.cpu woken) woken)
         ∷ event s.cpu (OnBuffer s.buffer s.edit) ∷ old
     pub leaves : left ≡ record { threads = passed_on own_done; deferred = None }
 

@@ -34,7 +34,7 @@ pub trait OpensAttempts: OwnedThreadLayer<SleepLaw<Attempt>> {
         room: usize,
     ) -> Result<Self::Machine, NoMemory>
         requires { AreOpenable cpus caps.now homes.now }
-        ensures seen { IfOk result (λ m. Self.seen m ≡ []) }
+        ensures history { IfOk result (λ m. Self.history m ≡ []) }
         ensures room { IfOk result (λ m. room ≤ Self.room m) }
         ensures homes { IfOk result (λ m. homes_in (Self.opening m) ≡ homes.now) }
         ensures queues { IfOk result

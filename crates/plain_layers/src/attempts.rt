@@ -8,7 +8,7 @@ ghost use Rattle.{plain_layers.specs.declared.attempts.{Ask.TheVariants.{Close, 
 
 use arrayvec::ArrayVec;
 use event_log::{CAPACITY, Kind, Msg, Ring, THREADS, Tid};
-use layer_traits::{Effect, Parcel, Side, Sleeps, WaitList, Wake};
+use layer_traits::{Effect, MessageSlot, Side, Sleeps, WaitList, Wake};
 use std::marker::Model;
 use thread_blocks::ThreadQueue;
 
@@ -165,16 +165,17 @@ impl PlainBuffer {
 
     /// Wakes the thread that an effect of this side wakes: the first of the other side. If the
     /// buffer is closed and a thread waits on this side, it is the first of this side.
-    fn wake_after(&mut self, own: Side) -> Wake
-        ensures block { self.new ≡ attempt_woken (waking_by self.old.closed own self.old) self.old }
+    fn wake_after(&mut self, local: Side) -> Wake
+        ensures block { self.new
+            ≡ attempt_woken (waking_by self.old.closed local self.old) self.old }
         ensures reported { result
-            ≡ leaving_side (waking_by self.old.closed own self.old)
-            (first (waiting_on (waking_by self.old.closed own self.old) self.old)) }
+            ≡ leaving_side (waking_by self.old.closed local self.old)
+            (first (waiting_on (waking_by self.old.closed local self.old) self.old)) }
     {
-        if self.closed && self.has_waiting(own) {
-            return self.wake(own);
+        if self.closed && self.has_waiting(local) {
+            return self.wake(local);
         }
-        match own {
+        match local {
             Side::Receivers => self.wake(Side::Senders),
             Side::Senders => self.wake(Side::Receivers),
         }
@@ -294,30 +295,30 @@ impl Sleeps for Attempt {
 
     type Out = Tried;
 
-    type Handed = Attempt;
+    type Request = Attempt;
 
-    type Brought = Tried;
+    type Response = Tried;
 
-    ghost rules = { attempts };
+    ghost protocol = { attempts };
 
-    ghost meant = { λ attempt parcel. attempt };
+    ghost abstract_call = { λ attempt message_slot. attempt };
 
-    ghost told = { λ tried parcel. tried };
+    ghost abstract_answer = { λ tried message_slot. tried };
 
     fn caller(attempt: &Attempt) -> Tid {
         attempt.thread
     }
 
     // An attempt contains its message.
-    fn whole(attempt: &Attempt, _parcel: &Parcel) -> Attempt {
+    fn whole(attempt: &Attempt, _message_slot: &MessageSlot) -> Attempt {
         *attempt
     }
 
-    fn apply_handed(
+    fn apply_request(
         attempt: &Attempt,
         _first: Option<Tid>,
         block: &mut PlainBuffer,
-        _parcel: &mut Parcel,
+        _message_slot: &mut MessageSlot,
     ) -> Tried {
         if !block.allows(&attempt.ask) {
             let side = attempt_side(&attempt.ask);

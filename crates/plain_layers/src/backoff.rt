@@ -30,13 +30,13 @@ impl<E: SplitEdit, L: Layer<LockLaw<E>>> Layer<LockLaw<E>> for Backoff<L> {
 
     ghost opening = { λ m. L.opening m };
 
-    ghost seen = { λ m. L.seen m };
+    ghost history = { λ m. L.history m };
 
     ghost ActsFor = { λ m c. L.ActsFor m c };
 
     ghost room = { λ m. L.room m };
 
-    ghost site = { λ m. L.site m };
+    ghost machine_id = { λ m. L.machine_id m };
 
     ghost IsOutside = { λ m c. L.IsOutside m c };
 
@@ -44,13 +44,13 @@ impl<E: SplitEdit, L: Layer<LockLaw<E>>> Layer<LockLaw<E>> for Backoff<L> {
 
     ghost cpu_of = { λ p. L.cpu_of p.lower };
 
-    ghost own = { λ p. tt };
+    ghost local = { λ p. tt };
 
     ghost under_way = { λ p. L.under_way p.lower };
 
     ghost is_inside = { λ p. L.is_inside p.lower };
 
-    ghost Fits = { λ p m. L.Fits p.lower m };
+    ghost Coupled = { λ p m. L.Coupled p.lower m };
 
     ghost IsStepwise = { ⊥ };
 
@@ -70,7 +70,7 @@ impl<E: SplitEdit, L: Layer<LockLaw<E>>> Layer<LockLaw<E>> for Backoff<L> {
         self.lower.is_busy()
     }
 
-    fn own_here(&self) -> &() {
+    fn local_here(&self) -> &() {
         &()
     }
 
@@ -81,9 +81,9 @@ impl<E: SplitEdit, L: Layer<LockLaw<E>>> Layer<LockLaw<E>> for Backoff<L> {
     fn poll(
         &mut self,
         m: &mut L::Machine,
-        call: LockCall<E::Handed>,
+        call: LockCall<E::Request>,
         payload: &mut Payload,
-    ) -> Option<E::Brought> {
+    ) -> Option<E::Response> {
         if self.rests > 0 && self.lower.is_busy() {
             self.rests -= 1;
             return None;
@@ -93,7 +93,7 @@ impl<E: SplitEdit, L: Layer<LockLaw<E>>> Layer<LockLaw<E>> for Backoff<L> {
         self.lower.poll(m, call, payload)
     }
 
-    ghost own_cpu = { λ p m fits. L.own_cpu p.lower m fits };
+    ghost own_cpu = { λ p m coupled. L.own_cpu p.lower m coupled };
 
     ghost lawful = { λ m c acts. L.lawful m c acts };
 
@@ -103,11 +103,11 @@ impl<E: SplitEdit, L: Layer<LockLaw<E>>> Layer<LockLaw<E>> for Backoff<L> {
 
     ghost opens = { λ m c acts. tt };
 
-    ghost stands = { λ p m fits. tt };
+    ghost stands = { λ p m coupled. tt };
 
     ghost inside = { λ p. L.inside p.lower };
 
-    ghost idle = { λ p m fits none. L.idle p.lower m fits none };
+    ghost idle = { λ p m coupled none. L.idle p.lower m coupled none };
 
     ghost legal = { λ m c acts. tt };
 
@@ -115,7 +115,7 @@ impl<E: SplitEdit, L: Layer<LockLaw<E>>> Layer<LockLaw<E>> for Backoff<L> {
 
     ghost proper = { λ step m c acts. tt };
 
-    ghost busy = { λ p m fits step. absurd step };
+    ghost busy = { λ p m coupled step. absurd step };
 }
 
 impl<E: SplitEdit, L: OwnedLocks<E>> OwnedLocks<E> for Backoff<L> {
@@ -133,7 +133,7 @@ impl<E: SplitEdit, L: OwnedLocks<E>> OwnedLocks<E> for Backoff<L> {
         room: usize,
     ) -> Result<L::Machine, NoMemory>
         requires distinct { AreDistinct blocks.items }
-        ensures seen { IfOk result (λ m. L.seen m ≡ []) }
+        ensures history { IfOk result (λ m. L.history m ≡ []) }
         ensures opening { IfOk result (λ m. L.opening m ≡ opened blocks.items) }
         ensures room { IfOk result (λ m. L.room m ≡ room) }
         ensures acts { IfOk result (λ m. (c : _) → c.0 < CPUS → L.ActsFor m c) }
@@ -153,8 +153,8 @@ impl<E: SplitEdit, L: OwnedLocks<E>> OwnedLocks<E> for Backoff<L> {
     }
 
     ghost shown = { λ m c lock acts there. shown_on
-        (parts_on (λ (p : Self). p.lower) (λ p. L.Fits p m) (λ (p : Self). Self.Fits p m) (λ p. L.cpu_of p) (L.MayHold m) (λ p fits. fits))
-        (λ p. L.block_with p lock) (L.block_at m lock) (block_after E.rules.edited (L.opening m) lock (L.seen m)) (L.shown m c lock acts there) };
+        (parts_on (λ (p : Self). p.lower) (λ p. L.Coupled p m) (λ (p : Self). Self.Coupled p m) (λ p. L.cpu_of p) (L.MayHold m) (λ p coupled. coupled))
+        (λ p. L.block_with p lock) (L.block_at m lock) (block_after E.protocol.edited (L.opening m) lock (L.history m)) (L.shown m c lock acts there) };
 
     ghost holding = { λ step m c held. absurd step };
 }

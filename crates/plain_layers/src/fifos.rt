@@ -103,21 +103,21 @@ impl<S: ThreadLayer<SleepLaw<Attempt>>> CallLayer<BufferLaw> for PlainFifo<S> {
 
     type Machine = S::Machine;
 
-    ghost seen = { λ m. plain_entries_in (inner (S.opening m)) (buffer_sections (S.seen m)) };
+    ghost history = { λ m. plain_entries_in (inner (S.opening m)) (buffer_sections (S.history m)) };
 
-    ghost moves = { λ m. moves_in (sleep_kernel attempts (S.opening m)) (S.seen m) };
+    ghost moves = { λ m. moves_in (sleep_kernel attempts (S.opening m)) (S.history m) };
 
-    ghost wait_lists = { λ m b line. wait_lists_in (inner (S.opening m)) (buffer_sections (S.seen m)) b line };
+    ghost wait_lists = { λ m b line. wait_lists_in (inner (S.opening m)) (buffer_sections (S.history m)) b line };
 
     ghost ActsFor = { λ m c. S.ActsFor m c × S.IsWhole × IsOwned (λ d. S.ActsFor m d) (S.opening m) };
 
     ghost room = { λ m. S.room m / 2 };
 
-    ghost site = { λ m. S.site m };
+    ghost machine_id = { λ m. S.machine_id m };
 
     ghost IsFresh = { λ m homes c. (S.ActsFor m c × S.IsWhole × IsOwned (λ d. S.ActsFor m d) (S.opening m)) × S.IsOutside m c
-        × (plain_entries_in (inner (S.opening m)) (buffer_sections (S.seen m)) ≡ [])
-        × (moves_in (sleep_kernel attempts (S.opening m)) (S.seen m) ≡ [])
+        × (plain_entries_in (inner (S.opening m)) (buffer_sections (S.history m)) ≡ [])
+        × (moves_in (sleep_kernel attempts (S.opening m)) (S.history m) ≡ [])
         × (homes_in (viewed plain_shown (S.opening m)) ≡ homes) × IsSome (S.opening m (Pending c)) };
 
     ghost MayHold = { λ m c. S.MayHold m c };
@@ -128,8 +128,8 @@ impl<S: ThreadLayer<SleepLaw<Attempt>>> CallLayer<BufferLaw> for PlainFifo<S> {
 
     ghost under_way = { λ p. None };
 
-    ghost Fits = { λ p m. S.Fits p.lower m × S.IsWhole × IsOwned (λ d. S.ActsFor m d) (S.opening m)
-        × RestsBetweenPolls (S.under_way p.lower) (S.own p.lower) p.call_states };
+    ghost Coupled = { λ p m. S.Coupled p.lower m × S.IsWhole × IsOwned (λ d. S.ActsFor m d) (S.opening m)
+        × RestsBetweenPolls (S.under_way p.lower) (S.local p.lower) p.call_states };
 
     ghost IsWhole = { Unit {0} };
 
@@ -139,7 +139,7 @@ impl<S: ThreadLayer<SleepLaw<Attempt>>> CallLayer<BufferLaw> for PlainFifo<S> {
 
     ghost acts = { λ m. [] };
 
-    ghost own = { λ p. plain_own_of (S.own p.lower).threads p.call_states };
+    ghost local = { λ p. plain_own_of (S.local p.lower).threads p.call_states };
 
     fn part(cpu: CpuId, homes: &[CpuId], buffers: u8) -> Self {
         PlainFifo {
@@ -191,19 +191,19 @@ impl<S: ThreadLayer<SleepLaw<Attempt>>> CallLayer<BufferLaw> for PlainFifo<S> {
         self.lower.pass(m, call, &mut Payload::new())
     }
 
-    ghost own_cpu = { λ p m fits. (S.own_cpu p.lower m fits.0, fits.1, fits.2) };
+    ghost own_cpu = { λ p m coupled. (S.own_cpu p.lower m coupled.0, coupled.1, coupled.2) };
 
-    ghost lawful = { λ m c acts. plain_lawful (inner (S.opening m)) (caps_in (viewed plain_shown (S.opening m))) (buffer_sections (S.seen m)) acts.2.fresh };
+    ghost lawful = { λ m c acts. plain_lawful (inner (S.opening m)) (caps_in (viewed plain_shown (S.opening m))) (buffer_sections (S.history m)) acts.2.fresh };
 
-    ghost stands = { λ p m fits. at_viewed plain_shown (S.opening m) (λ homes. Stands homes (S.cpu_of p.lower)
-        (moves_in (sleep_kernel attempts (S.opening m)) (S.seen m)) (S.own p.lower).threads) (S.stands p.lower m fits.0).stands };
+    ghost stands = { λ p m coupled. at_viewed plain_shown (S.opening m) (λ homes. Stands homes (S.cpu_of p.lower)
+        (moves_in (sleep_kernel attempts (S.opening m)) (S.history m)) (S.local p.lower).threads) (S.stands p.lower m coupled.0).stands };
 
     ghost moves_legal = { λ m c acts. at_viewed plain_shown (S.opening m)
-        (λ homes. AreMoves homes (moves_in (sleep_kernel attempts (S.opening m)) (S.seen m))) (S.moves_legal m c acts.0) };
+        (λ homes. AreMoves homes (moves_in (sleep_kernel attempts (S.opening m)) (S.history m))) (S.moves_legal m c acts.0) };
 
-    ghost lists = { λ p m fits. at_viewed plain_shown (S.opening m) (λ homes. WaitListsAgree (length (caps_in (viewed plain_shown (S.opening m)))) homes
-        (moves_in (sleep_kernel attempts (S.opening m)) (S.seen m)) (wait_lists_in (inner (S.opening m)) (buffer_sections (S.seen m))))
-        (plain_wait_lists (S.opening m) (S.seen m) fits.2.fresh (S.stands p.lower m fits.0).lists) };
+    ghost lists = { λ p m coupled. at_viewed plain_shown (S.opening m) (λ homes. WaitListsAgree (length (caps_in (viewed plain_shown (S.opening m)))) homes
+        (moves_in (sleep_kernel attempts (S.opening m)) (S.history m)) (wait_lists_in (inner (S.opening m)) (buffer_sections (S.history m))))
+        (plain_wait_lists (S.opening m) (S.history m) coupled.2.fresh (S.stands p.lower m coupled.0).lists) };
 
     ghost starts = { λ m c acts. starts_viewed plain_shown (S.opening m) (S.opens m c acts.0) };
 
@@ -213,9 +213,9 @@ impl<S: ThreadLayer<SleepLaw<Attempt>>> CallLayer<BufferLaw> for PlainFifo<S> {
 
     ghost moves_are = { λ step m c acts. absurd step };
 
-    ghost busy = { λ p m fits step. absurd step };
+    ghost busy = { λ p m coupled step. absurd step };
 
-    ghost idle = { λ p m fits none. refl };
+    ghost idle = { λ p m coupled none. refl };
 
     ghost opens = { λ step m homes c fresh. absurd step };
 }
@@ -291,23 +291,23 @@ impl<S: OwnedThreadLayer<SleepLaw<Attempt>>> OwnedBuffers for PlainFifo<S> {
         self.lower.pends_here(d, t)
     }
 
-    ghost known = { λ m c acts. entries_known (inner (S.opening m)) (S.seen m) (S.known m c acts.0) };
+    ghost known = { λ m c acts. entries_known (inner (S.opening m)) (S.history m) (S.known m c acts.0) };
 
     ghost items = { λ m c b acts within. view_read
-        (parts_on (λ (p : Self). p.lower) (λ p. S.Fits p m) (λ (p : Self). Self.Fits p m) (λ p. S.cpu_of p) (S.MayHold m) (λ p fits. fits.0))
-        plain_items_in (locked_after (inner (S.opening m)) (Buffer b) (buffer_sections (S.seen m))) (λ p. S.block_with p b) (S.block_at m b)
-        (items_of (contents_of (caps_in (viewed plain_shown (S.opening m))) (plain_entries_in (inner (S.opening m)) (buffer_sections (S.seen m)))) b.0)
-        (items_read (S.opening m) acts.2.fresh b within (buffer_sections (S.seen m)))
+        (parts_on (λ (p : Self). p.lower) (λ p. S.Coupled p m) (λ (p : Self). Self.Coupled p m) (λ p. S.cpu_of p) (S.MayHold m) (λ p coupled. coupled.0))
+        plain_items_in (locked_after (inner (S.opening m)) (Buffer b) (buffer_sections (S.history m))) (λ p. S.block_with p b) (S.block_at m b)
+        (items_of (contents_of (caps_in (viewed plain_shown (S.opening m))) (plain_entries_in (inner (S.opening m)) (buffer_sections (S.history m)))) b.0)
+        (items_read (S.opening m) acts.2.fresh b within (buffer_sections (S.history m)))
         (S.shown m c b acts.0 (buffer_there (S.opening m) acts.2.fresh b within)) };
 
     ghost closed = { λ m c b acts within. view_read
-        (parts_on (λ (p : Self). p.lower) (λ p. S.Fits p m) (λ (p : Self). Self.Fits p m) (λ p. S.cpu_of p) (S.MayHold m) (λ p fits. fits.0))
-        plain_closed_of (locked_after (inner (S.opening m)) (Buffer b) (buffer_sections (S.seen m))) (λ p. S.block_with p b) (S.block_at m b)
-        (is_closed (plain_entries_in (inner (S.opening m)) (buffer_sections (S.seen m))) b.0)
-        (closed_read (S.opening m) acts.2.fresh b within (buffer_sections (S.seen m)))
+        (parts_on (λ (p : Self). p.lower) (λ p. S.Coupled p m) (λ (p : Self). Self.Coupled p m) (λ p. S.cpu_of p) (S.MayHold m) (λ p coupled. coupled.0))
+        plain_closed_of (locked_after (inner (S.opening m)) (Buffer b) (buffer_sections (S.history m))) (λ p. S.block_with p b) (S.block_at m b)
+        (is_closed (plain_entries_in (inner (S.opening m)) (buffer_sections (S.history m))) b.0)
+        (closed_read (S.opening m) acts.2.fresh b within (buffer_sections (S.history m)))
         (S.shown m c b acts.0 (buffer_there (S.opening m) acts.2.fresh b within)) };
 
-    ghost owners = { λ m c b acts within. nobody_owns (λ (p : Self). Self.Fits p m) (λ p. S.cpu_of p.lower)
+    ghost owners = { λ m c b acts within. nobody_owns (λ (p : Self). Self.Coupled p m) (λ p. S.cpu_of p.lower)
         (S.MayHold m) };
 
     ghost owner_is = { λ step m c b acts. absurd step };
@@ -315,16 +315,16 @@ impl<S: OwnedThreadLayer<SleepLaw<Attempt>>> OwnedBuffers for PlainFifo<S> {
     ghost items_are = { λ step m c b acts within. absurd step };
 
     ghost waiters_law = { λ m c b acts within. view_read
-        (parts_on (λ (p : Self). p.lower) (λ p. S.Fits p m) (λ (p : Self). Self.Fits p m) (λ p. S.cpu_of p) (S.MayHold m) (λ p fits. fits.0))
-        plain_wait_lists_of (locked_after (inner (S.opening m)) (Buffer b) (buffer_sections (S.seen m))) (λ p. S.block_with p b) (S.block_at m b)
-        (λ line. wait_lists_in (inner (S.opening m)) (buffer_sections (S.seen m)) b line)
-        (wait_lists_read (S.opening m) acts.2.fresh b within (buffer_sections (S.seen m)))
+        (parts_on (λ (p : Self). p.lower) (λ p. S.Coupled p m) (λ (p : Self). Self.Coupled p m) (λ p. S.cpu_of p) (S.MayHold m) (λ p coupled. coupled.0))
+        plain_wait_lists_of (locked_after (inner (S.opening m)) (Buffer b) (buffer_sections (S.history m))) (λ p. S.block_with p b) (S.block_at m b)
+        (λ line. wait_lists_in (inner (S.opening m)) (buffer_sections (S.history m)) b line)
+        (wait_lists_read (S.opening m) acts.2.fresh b within (buffer_sections (S.history m)))
         (S.shown m c b acts.0 (buffer_there (S.opening m) acts.2.fresh b within)) };
 
     ghost queues = { λ m c d acts there. read_on
-        (parts_on (λ (p : Self). p.lower) (λ p. S.Fits p m) (λ (p : Self). Self.Fits p m) (λ p. S.cpu_of p) (S.MayHold m) (λ p fits. fits.0))
+        (parts_on (λ (p : Self). p.lower) (λ p. S.Coupled p m) (λ (p : Self). Self.Coupled p m) (λ p. S.cpu_of p) (S.MayHold m) (λ p coupled. coupled.0))
         (λ p. S.queue_with p d) (S.queue_at m d)
-        (pending_by (moves_in (sleep_kernel attempts (S.opening m)) (S.seen m)) d)
+        (pending_by (moves_in (sleep_kernel attempts (S.opening m)) (S.history m)) d)
         (S.queues m c d acts.0 (there_viewed (viewed_block plain_shown) (S.opening m (Pending d)) there)) };
 
     ghost holding = { λ step m c held. absurd step };

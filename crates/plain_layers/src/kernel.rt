@@ -3,9 +3,9 @@
 
 ghost use Rattle.std.specs.Prelude.{◌≡◌, ◌+◌, ◌<◌, ◌∷◌, [], Some, IsSome, IfOk, length, option_map, replicate, slice_get};
 ghost use Rattle.{event_log.specs.declared.ids.{LockId.TheVariants.{Buffer, Pending}, TheConstants.CPUS}, thread_blocks.specs.Queues.is_in};
-ghost use Rattle.layer_traits.specs.{Blocks.{QueueBlocks.{homes_in, inner}, Payloads.{call_meant, queue_told}}, Layers.Queues.{CallAllowed, answer_of, event}};
-ghost use Rattle.{layer_traits.specs.Layers.Queues.{kernel, lock_of}, plain_layers.specs.Kernels.{CanDo, IsDone, IsKernel, calls_in, call_room, opening_of}};
-ghost use Rattle.shared_queue.specs.Opening.{AreQueues};
+ghost use Rattle.layer_traits.specs.{Blocks.{QueueBlocks.{homes_in, inner}, Payloads.{abstract_queue_call, abstract_queue_answer}}, Layers.Queues.CallAllowed};
+ghost use Rattle.{layer_traits.specs.Layers.Queues.{answer_of, event, kernel, lock_of}, plain_layers.specs.Kernels.{CanDo, IsDone, IsKernel, calls_in}};
+ghost use Rattle.{plain_layers.specs.Kernels.{call_room, opening_of}, shared_queue.specs.Opening.AreQueues};
 
 use arrayvec::ArrayVec;
 use event_log::{BufId, CpuId, EventLog, NoMemory, THREADS, Tid};
@@ -53,8 +53,9 @@ impl<E: Moves> PlainKernel<E> {
         room: usize,
     ) -> Result<PlainKernel<E>, NoMemory>
         requires { AreQueues cpus homes.now (length buffers.items) }
-        ensures sound { IfOk result (λ m. IsKernel E.rules E.moves m.opening (calls_in m) m.lists) }
-        ensures seen { IfOk result (λ m. calls_in m ≡ []) }
+        ensures sound { IfOk result
+            (λ m. IsKernel E.protocol E.moves m.opening (calls_in m) m.lists) }
+        ensures history { IfOk result (λ m. calls_in m ≡ []) }
         ensures room { IfOk result (λ m. call_room m ≡ room) }
         ensures homes { IfOk result (λ m. homes_in (opening_of m.opening) ≡ homes.now) }
         ensures queues { IfOk result
@@ -65,9 +66,9 @@ impl<E: Moves> PlainKernel<E> {
         let log = EventLog::with_room(alloc, room)?;
         let pending = empty_queues(alloc, cpus)?;
         let lists = Lists { pending, buffers };
-        let told = kept_homes(homes);
+        let abstract_answer = kept_homes(homes);
         let opened = Snapshot::of(&lists);
-        let homes = Snapshot::of(&told);
+        let homes = Snapshot::of(&abstract_answer);
         Ok(PlainKernel {
             log,
             lists,
@@ -86,30 +87,35 @@ impl<E: Moves> PlainKernel<E> {
     pub fn done(
         &mut self,
         cpu: CpuId,
-        call: QueueCall<E::Handed>,
+        call: QueueCall<E::Request>,
         payload: &mut Payload,
-    ) -> BareQueueAnswer<E::Brought>
-        requires sound { IsKernel E.rules E.moves self.old.opening (calls_in self.old)
+    ) -> BareQueueAnswer<E::Response>
+        requires sound { IsKernel E.protocol E.moves self.old.opening (calls_in self.old)
             self.old.lists }
         requires room { 0 < call_room self.old }
         requires cpu { cpu.0 < CPUS }
         requires lock { IsSome (opening_of self.old.opening (lock_of call)) }
-        requires call { CallAllowed (kernel E.rules E.moves (opening_of self.old.opening))
-            (calls_in self.old) cpu (call_meant E.meant call payload.old) }
-        ensures sound { IsKernel E.rules E.moves self.new.opening (calls_in self.new)
+        requires call { CallAllowed (kernel E.protocol E.moves (opening_of self.old.opening))
+            (calls_in self.old) cpu (abstract_queue_call E.abstract_call call payload.old) }
+        ensures sound { IsKernel E.protocol E.moves self.new.opening (calls_in self.new)
             self.new.lists }
         ensures opening { self.new.opening ≡ self.old.opening }
-        ensures seen { calls_in self.new
-            ≡ event cpu (call_meant E.meant call payload.old) ∷ calls_in self.old }
+        ensures history { calls_in self.new
+            ≡ event cpu (abstract_queue_call E.abstract_call call payload.old) ∷ calls_in self.old }
         ensures room { call_room self.old ≡ call_room self.new + 1 }
-        ensures answer { answer_of (kernel E.rules E.moves (opening_of self.old.opening))
-            (calls_in self.old) (call_meant E.meant call payload.old)
-            ≡ Some (queue_told E.told result payload.new) }
+        ensures answer { answer_of (kernel E.protocol E.moves (opening_of self.old.opening))
+            (calls_in self.old) (abstract_queue_call E.abstract_call call payload.old)
+            ≡ Some (abstract_queue_answer E.abstract_answer result payload.new) }
     {
         // What the call leaves in the payload may overwrite its parcel.
-        let meant = whole_call::<E>(&call, payload);
+        let abstract_call = whole_call::<E>(&call, payload);
         let answer = do_call::<E>(&mut self.lists, &call, payload);
-        self.log.push(QueueEvent { cpu, call: meant }).unwrap();
+        self.log
+            .push(QueueEvent {
+                cpu,
+                call: abstract_call,
+            })
+            .unwrap();
         answer
     }
 
@@ -134,8 +140,8 @@ impl<E: Moves> PlainKernel<E> {
 }
 
 /// Returns the call that its handed part and the payload mean.
-fn whole_call<E: Moves>(call: &QueueCall<E::Handed>, payload: &Payload) -> QueueCall<E>
-    ensures { result ≡ call_meant E.meant call.now payload.now }
+fn whole_call<E: Moves>(call: &QueueCall<E::Request>, payload: &Payload) -> QueueCall<E>
+    ensures { result ≡ abstract_queue_call E.abstract_call call.now payload.now }
 {
     match call {
         QueueCall::Push(queue, t) => QueueCall::Push(*queue, *t),
@@ -149,12 +155,13 @@ fn whole_call<E: Moves>(call: &QueueCall<E::Handed>, payload: &Payload) -> Queue
 /// Applies such a call to the lists.
 fn do_call<E: Moves>(
     lists: &mut Lists<E::Block>,
-    call: &QueueCall<E::Handed>,
+    call: &QueueCall<E::Request>,
     payload: &mut Payload,
-) -> BareQueueAnswer<E::Brought>
+) -> BareQueueAnswer<E::Response>
     requires { CanDo call.now lists.old }
-    ensures { IsDone E.rules (call_meant E.meant call.now payload.old) lists.old lists.new
-        (queue_told E.told result payload.new) }
+    ensures { IsDone E.protocol (abstract_queue_call E.abstract_call call.now payload.old) lists.old
+        lists.new
+        (abstract_queue_answer E.abstract_answer result payload.new) }
 {
     match call {
         QueueCall::Push(queue, t) => {
@@ -167,7 +174,7 @@ fn do_call<E: Moves>(
         }
         QueueCall::OnBuffer(buffer, edit) => {
             let block = &mut lists.buffers[usize::from(buffer.0)];
-            BareQueueAnswer::Answer(E::apply_handed(edit, block, payload))
+            BareQueueAnswer::Answer(E::apply_request(edit, block, payload))
         }
     }
 }

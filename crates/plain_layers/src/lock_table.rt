@@ -42,9 +42,9 @@ impl<E: SplitEdit> LockTable<E> {
         room: usize,
     ) -> Result<LockTable<E>, NoMemory>
         ensures sound { IfOk result
-            (λ m. IsTable E.rules (opening_in m) (sections_noted m) m.blocks.items) }
+            (λ m. IsTable E.protocol (opening_in m) (sections_noted m) m.blocks.items) }
         ensures opening { IfOk result (λ m. opening_in m ≡ opened blocks.items) }
-        ensures seen { IfOk result (λ m. sections_noted m ≡ []) }
+        ensures history { IfOk result (λ m. sections_noted m ≡ []) }
         ensures room { IfOk result (λ m. room_in m ≡ room) }
     {
         let log = EventLog::with_room(alloc, room)?;
@@ -65,25 +65,25 @@ impl<E: SplitEdit> LockTable<E> {
         &mut self,
         cpu: CpuId,
         lock: LockId,
-        handed: E::Handed,
+        handed: E::Request,
         payload: &mut Payload,
-    ) -> E::Brought
-        requires sound { IsTable E.rules (opening_in self.old) (sections_noted self.old)
+    ) -> E::Response
+        requires sound { IsTable E.protocol (opening_in self.old) (sections_noted self.old)
             self.old.blocks.items }
         requires room { 0 < room_in self.old }
         requires cpu { cpu.0 < CPUS }
         requires lock { IsSome (opening_in self.old lock) }
-        requires allowed { E.rules.allowed (opening_in self.old) (sections_noted self.old)
-            (section cpu lock (E.meant handed payload.old)) }
-        ensures sound { IsTable E.rules (opening_in self.new) (sections_noted self.new)
+        requires allowed { E.protocol.allowed (opening_in self.old) (sections_noted self.old)
+            (section cpu lock (E.abstract_call handed payload.old)) }
+        ensures sound { IsTable E.protocol (opening_in self.new) (sections_noted self.new)
             self.new.blocks.items }
         ensures opening { opening_in self.new ≡ opening_in self.old }
-        ensures seen { sections_noted self.new
-            ≡ section cpu lock (E.meant handed payload.old) ∷ sections_noted self.old }
+        ensures history { sections_noted self.new
+            ≡ section cpu lock (E.abstract_call handed payload.old) ∷ sections_noted self.old }
         ensures room { room_in self.old ≡ room_in self.new + 1 }
-        ensures answer { Answers E.rules (opening_in self.old) (sections_noted self.old)
-            (section cpu lock (E.meant handed payload.old))
-            (E.told result payload.new) }
+        ensures answer { Answers E.protocol (opening_in self.old) (sections_noted self.old)
+            (section cpu lock (E.abstract_call handed payload.old))
+            (E.abstract_answer result payload.new) }
     {
         // The section may overwrite the edit's parcel with that of its result.
         let edit = E::whole(&handed, payload);
@@ -96,7 +96,7 @@ impl<E: SplitEdit> LockTable<E> {
     ///
     /// Requires: the blocks are what the sections make of them, and the lock exists.
     pub fn block(&self, lock: LockId) -> Option<&E::Block>
-        requires sound { IsTable E.rules (opening_in self.now) (sections_noted self.now)
+        requires sound { IsTable E.protocol (opening_in self.now) (sections_noted self.now)
             self.now.blocks.items }
         requires lock { IsSome (opening_in self.now lock) }
         ensures { option_map (λ block. block.now) result ≡ opened self.now.blocks.items lock }
@@ -110,20 +110,20 @@ impl<E: SplitEdit> LockTable<E> {
 fn edit_at<E: SplitEdit>(
     blocks: &mut Vec<(LockId, E::Block)>,
     lock: LockId,
-    handed: &E::Handed,
+    handed: &E::Request,
     payload: &mut Payload,
-) -> E::Brought
+) -> E::Response
     requires { IsSome (opened blocks.old.items lock) }
     ensures block { (l : LockId) → opened blocks.new.items l
         ≡ (if same_lock l lock
-        then option_map (E.rules.edited (E.meant handed.now payload.old))
+        then option_map (E.protocol.edited (E.abstract_call handed.now payload.old))
         (opened blocks.old.items l) else opened blocks.old.items l) }
-    ensures answer { option_map (E.rules.answer (E.meant handed.now payload.old))
+    ensures answer { option_map (E.protocol.answer (E.abstract_call handed.now payload.old))
         (opened blocks.old.items lock)
-        ≡ Some (E.told result payload.new) }
+        ≡ Some (E.abstract_answer result payload.new) }
 {
     let slot = slot_of(blocks, lock);
-    E::apply_handed(handed, &mut blocks[slot].1, payload)
+    E::apply_request(handed, &mut blocks[slot].1, payload)
 }
 
 /// Returns the slot of `lock` in the list: the first entry that names it.

@@ -24,9 +24,9 @@ impl<E: SplitEdit> Layer<LockLaw<E>> for PlainLock<E> {
 
     ghost opening = { λ m. opening_in m };
 
-    ghost seen = { λ m. sections_noted m };
+    ghost history = { λ m. sections_noted m };
 
-    ghost ActsFor = { λ m c. (c.0 < CPUS) × IsTable E.rules (opening_in m) (sections_noted m) m.blocks.items };
+    ghost ActsFor = { λ m c. (c.0 < CPUS) × IsTable E.protocol (opening_in m) (sections_noted m) m.blocks.items };
 
     ghost room = { λ m. room_in m };
 
@@ -36,13 +36,13 @@ impl<E: SplitEdit> Layer<LockLaw<E>> for PlainLock<E> {
 
     ghost cpu_of = { λ p. p.cpu };
 
-    ghost own = { λ p. tt };
+    ghost local = { λ p. tt };
 
     ghost under_way = { λ p. None };
 
     ghost is_inside = { λ p. false };
 
-    ghost Fits = { λ p m. (p.cpu.0 < CPUS) × IsTable E.rules (opening_in m) (sections_noted m) m.blocks.items };
+    ghost Coupled = { λ p m. (p.cpu.0 < CPUS) × IsTable E.protocol (opening_in m) (sections_noted m) m.blocks.items };
 
     ghost IsStepwise = { ⊥ };
 
@@ -61,7 +61,7 @@ impl<E: SplitEdit> Layer<LockLaw<E>> for PlainLock<E> {
         false
     }
 
-    fn own_here(&self) -> &() {
+    fn local_here(&self) -> &() {
         &()
     }
 
@@ -72,13 +72,13 @@ impl<E: SplitEdit> Layer<LockLaw<E>> for PlainLock<E> {
     fn poll(
         &mut self,
         m: &mut LockTable<E>,
-        call: LockCall<E::Handed>,
+        call: LockCall<E::Request>,
         payload: &mut Payload,
-    ) -> Option<E::Brought> {
+    ) -> Option<E::Response> {
         Some(m.done(self.cpu, call.lock, call.edit, payload))
     }
 
-    ghost own_cpu = { λ p m fits. fits };
+    ghost own_cpu = { λ p m coupled. coupled };
 
     ghost lawful = { λ m c acts. acts.1.lawful };
 
@@ -88,11 +88,11 @@ impl<E: SplitEdit> Layer<LockLaw<E>> for PlainLock<E> {
 
     ghost opens = { λ m c acts. tt };
 
-    ghost stands = { λ p m fits. tt };
+    ghost stands = { λ p m coupled. tt };
 
     ghost inside = { λ p. refl };
 
-    ghost idle = { λ p m fits none. refl };
+    ghost idle = { λ p m coupled none. refl };
 
     ghost legal = { λ m c acts. tt };
 
@@ -100,7 +100,7 @@ impl<E: SplitEdit> Layer<LockLaw<E>> for PlainLock<E> {
 
     ghost proper = { λ step m c acts. tt };
 
-    ghost busy = { λ p m fits step. absurd step };
+    ghost busy = { λ p m coupled step. absurd step };
 }
 
 impl<E: SplitEdit> OwnedLocks<E> for PlainLock<E> {
@@ -118,7 +118,7 @@ impl<E: SplitEdit> OwnedLocks<E> for PlainLock<E> {
         room: usize,
     ) -> Result<LockTable<E>, NoMemory>
         requires distinct { AreDistinct blocks.items }
-        ensures seen { IfOk result (λ m. ⟦<PlainLock<E> as Layer<LockLaw<E>>>⟧.seen m ≡ []) }
+        ensures history { IfOk result (λ m. ⟦<PlainLock<E> as Layer<LockLaw<E>>>⟧.history m ≡ []) }
         ensures opening { IfOk result
             (λ m. ⟦<PlainLock<E> as Layer<LockLaw<E>>>⟧.opening m ≡ opened blocks.items) }
         ensures room { IfOk result (λ m. ⟦<PlainLock<E> as Layer<LockLaw<E>>>⟧.room m ≡ room) }
@@ -141,7 +141,7 @@ impl<E: SplitEdit> OwnedLocks<E> for PlainLock<E> {
         None
     }
 
-    ghost shown = { λ m c lock acts there. table_shown E.rules (opening_in m) (sections_noted m) m.blocks.items (λ (p : Self). Self.Fits p m)
+    ghost shown = { λ m c lock acts there. table_shown E.protocol (opening_in m) (sections_noted m) m.blocks.items (λ (p : Self). Self.Coupled p m)
         (λ p. p.cpu) (Self.MayHold m) lock acts.1 there };
 
     ghost holding = { λ step m c held. absurd held };

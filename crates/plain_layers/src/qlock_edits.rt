@@ -4,12 +4,12 @@
 ghost use Rattle.std.specs.Prelude.{◌≡◌, IfOk, is_some, map};
 ghost use Rattle.layer_traits.specs.{declared.locked.Side.TheVariants.{Receivers, Senders}, Layers.QLocking.{list_with_waiter, lock_asked_by, signalled}};
 ghost use Rattle.layer_traits.specs.Layers.{QLocking.{wait_list_asked, wait_list_for, waiting_without, lock_answer, lock_edited}, Sleeping.joined};
-ghost use Rattle.{layer_traits.specs.{Views.Owned.wait_list_under, Blocks.Payloads.{lock_meant, lock_told, outcome_told}}, plain_layers.specs.QLocks.at_rest};
-ghost use Rattle.plain_layers.specs.QLocks.{lock_in};
+ghost use Rattle.layer_traits.specs.{Views.Owned.wait_list_under, Blocks.Payloads.{abstract_lock_call, abstract_lock_answer, abstract_outcome}};
+ghost use Rattle.plain_layers.specs.QLocks.{at_rest, lock_in};
 
 use event_log::{NoMemory, THREADS, Tid};
 use layer_traits::{
-    Locked, Moves, Outcome, Payload, QEdit, QOut, Side, SplitEdit, WaitList, WakeWaiter,
+    Locked, Moves, Outcome, Payload, QLockCall, QLockReply, Side, SplitEdit, WaitList, WakeWaiter,
 };
 use std::alloc::Global;
 use std::marker::Model;
@@ -27,9 +27,9 @@ pub struct PlainQBlock<B> {
 }
 
 impl<B> Model for PlainQBlock<B> {
-    ghost use Rattle.{queuing_lock.specs.declared.edits.QBlock.QBlock, sleep_wakeup.specs.declared.edits.SleepBlock.SleepBlock};
+    ghost use Rattle.{queuing_lock.specs.declared.edits.QLockBlock.QLockBlock, sleep_wakeup.specs.declared.edits.SleepBlock.SleepBlock};
 
-    ghost Value = { SleepBlock (QBlock B) };
+    ghost Value = { SleepBlock (QLockBlock B) };
 
     ghost view = { λ lock. record {
       sleepers = lock.sleepers;
@@ -94,13 +94,13 @@ pub fn plain_locks<B: Drop>(alloc: Global, blocks: Vec<B>) -> Result<Vec<PlainQB
 /// A call on a queuing lock, as an edit of the lock.
 #[derive(Drop)]
 pub struct PlainQEdit<F, R> {
-    call: QEdit<F, R>,
+    call: QLockCall<F, R>,
 }
 
 impl<F, R> Model for PlainQEdit<F, R> {
-    ghost use Rattle.{queuing_lock.specs.declared.edits.QLockEdit.QLockEdit, sleep_wakeup.specs.declared.edits.SleepEdit.SleepEdit};
+    ghost use Rattle.{queuing_lock.specs.declared.edits.QLockSection.QLockSection, sleep_wakeup.specs.declared.edits.SleepEdit.SleepEdit};
 
-    ghost Value = { SleepEdit (QLockEdit F R) };
+    ghost Value = { SleepEdit (QLockSection F R) };
 
     ghost view = { λ edit. record { edit = record { edit = edit.call } } };
 }
@@ -176,37 +176,44 @@ fn list_of(side: Option<Side>) -> Option<WaitList>
 
 /// Does a call on a lock.
 fn apply<F: Locked>(
-    handed: &QEdit<F::Handed, F::Release>,
+    handed: &QLockCall<F::Request, F::Release>,
     block: &mut PlainQBlock<F::Block>,
     payload: &mut Payload,
-) -> Outcome<QOut<F::Brought>>
+) -> Outcome<QLockReply<F::Response>>
     ensures lock { lock_in block.new
-        ≡ lock_edited F.rules (lock_meant F.meant handed.now payload.old.parcel)
+        ≡ lock_edited F.protocol
+        (abstract_lock_call F.abstract_call handed.now payload.old.message_slot)
         (lock_in block.old) }
-    ensures answer { outcome_told (lock_told F.told) result payload.new.parcel
-        ≡ lock_answer F.rules (lock_meant F.meant handed.now payload.old.parcel)
+    ensures answer { abstract_outcome (abstract_lock_answer F.abstract_answer) result
+        payload.new.message_slot
+        ≡ lock_answer F.protocol
+        (abstract_lock_call F.abstract_call handed.now payload.old.message_slot)
         (lock_in block.old) }
 {
     match handed {
-        QEdit::Acquire(t) => {
+        QLockCall::Acquire(t) => {
             let slept = ask(block, *t);
-            let out = if slept { QOut::Queued } else { QOut::Acquired };
+            let out = if slept {
+                QLockReply::Queued
+            } else {
+                QLockReply::Acquired
+            };
             Outcome {
                 out,
                 slept,
                 woke: None,
             }
         }
-        QEdit::Inside(edit) => {
-            let out = F::apply_handed(edit, &mut block.above, &mut payload.parcel);
+        QLockCall::Inside(edit) => {
+            let out = F::apply_request(edit, &mut block.above, &mut payload.message_slot);
             let woke = wake(F::signals(&out), &mut block.receivers, &mut block.senders);
             Outcome {
-                out: QOut::Did(out),
+                out: QLockReply::Did(out),
                 slept: false,
                 woke,
             }
         }
-        QEdit::Release(last) => {
+        QLockCall::Release(last) => {
             let t = F::last_caller(*last);
             let out = F::apply_last(*last, &mut block.above);
             let side = F::waits(&out);
@@ -216,7 +223,7 @@ fn apply<F: Locked>(
             let woke = block.sleepers.pop();
             block.owner = woke;
             Outcome {
-                out: QOut::Released(out),
+                out: QLockReply::Released(out),
                 slept: side.is_some(),
                 woke,
             }
@@ -225,39 +232,39 @@ fn apply<F: Locked>(
 }
 
 impl<F: Locked> SplitEdit for PlainQEdit<F, F::Release> {
-    ghost use Rattle.plain_layers.specs.QLocks.{plain_meant, plain_lock_rules, plain_told};
+    ghost use Rattle.plain_layers.specs.QLocks.{abstract_plain_call, plain_lock_rules, abstract_plain_answer};
 
     type Block = PlainQBlock<F::Block>;
 
-    type Out = Outcome<QOut<F::Out>>;
+    type Out = Outcome<QLockReply<F::Out>>;
 
-    type Handed = QEdit<F::Handed, F::Release>;
+    type Request = QLockCall<F::Request, F::Release>;
 
-    type Brought = Outcome<QOut<F::Brought>>;
+    type Response = Outcome<QLockReply<F::Response>>;
 
-    ghost rules = { plain_lock_rules F.rules };
+    ghost protocol = { plain_lock_rules F.protocol };
 
-    ghost meant = { plain_meant F.meant };
+    ghost abstract_call = { abstract_plain_call F.abstract_call };
 
-    ghost told = { plain_told F.told };
+    ghost abstract_answer = { abstract_plain_answer F.abstract_answer };
 
     fn whole(
-        handed: &QEdit<F::Handed, F::Release>,
+        handed: &QLockCall<F::Request, F::Release>,
         payload: &Payload,
     ) -> PlainQEdit<F, F::Release> {
         let call = match handed {
-            QEdit::Acquire(t) => QEdit::Acquire(*t),
-            QEdit::Inside(edit) => QEdit::Inside(F::whole(edit, &payload.parcel)),
-            QEdit::Release(last) => QEdit::Release(*last),
+            QLockCall::Acquire(t) => QLockCall::Acquire(*t),
+            QLockCall::Inside(edit) => QLockCall::Inside(F::whole(edit, &payload.message_slot)),
+            QLockCall::Release(last) => QLockCall::Release(*last),
         };
         PlainQEdit { call }
     }
 
-    fn apply_handed(
-        handed: &QEdit<F::Handed, F::Release>,
+    fn apply_request(
+        handed: &QLockCall<F::Request, F::Release>,
         block: &mut PlainQBlock<F::Block>,
         payload: &mut Payload,
-    ) -> Outcome<QOut<F::Brought>> {
+    ) -> Outcome<QLockReply<F::Response>> {
         apply::<F>(handed, block, payload)
     }
 }
@@ -265,19 +272,19 @@ impl<F: Locked> SplitEdit for PlainQEdit<F, F::Release> {
 impl<F: Locked> Moves for PlainQEdit<F, F::Release> {
     ghost use Rattle.{queuing_lock.specs.Nested.busy_rules, sleep_wakeup.specs.Laws.NestedLaws.nested_wakes, plain_layers.specs.QLocks.plain_lock_moves};
 
-    ghost moves = { plain_lock_moves F.rules };
+    ghost moves = { plain_lock_moves F.protocol };
 
-    fn slept(brought: &Outcome<QOut<F::Brought>>) -> Option<WaitList> {
-        match &brought.out {
-            QOut::Acquired | QOut::Did(_) => None,
-            QOut::Queued => Some(WaitList::Sleepers),
-            QOut::Released(last) => list_of(F::waits(last)),
+    fn slept(response: &Outcome<QLockReply<F::Response>>) -> Option<WaitList> {
+        match &response.out {
+            QLockReply::Acquired | QLockReply::Did(_) => None,
+            QLockReply::Queued => Some(WaitList::Sleepers),
+            QLockReply::Released(last) => list_of(F::waits(last)),
         }
     }
 
-    fn woke(brought: &Outcome<QOut<F::Brought>>) -> Option<Tid> {
-        brought.woke
+    fn woke(response: &Outcome<QLockReply<F::Response>>) -> Option<Tid> {
+        response.woke
     }
 
-    ghost wakes_sleepers = { nested_wakes (busy_rules F.rules) };
+    ghost wakes_sleepers = { nested_wakes (busy_rules F.protocol) };
 }

@@ -1,18 +1,18 @@
 //! Queuing locks in one step, over the lists that all CPUs share. No function allocates or blocks.
 
 ghost use Rattle.std.specs.Prelude.{◌≡◌, ◌<◌, Some, None, is_some, slice_set};
-ghost use Rattle.{event_log.specs.declared.ids.TheConstants.THREADS, layer_traits.specs.{declared.payloads.Parcel.Parcel, Blocks.Payloads.lock_meant}};
-ghost use Rattle.{layer_traits.specs.Layers.{QLocking.lock_caller, QLockLaw.slept_for, SleepLaw.due}, plain_layers.specs.Wholes.IsCoarse};
-ghost use Rattle.plain_layers.specs.QLocks.{answered_after, handed_on, kept_after, noted_after, parcel_after};
+ghost use Rattle.{event_log.specs.declared.ids.TheConstants.THREADS, layer_traits.specs.declared.payloads.MessageSlot.MessageSlot};
+ghost use Rattle.layer_traits.specs.{Blocks.Payloads.abstract_lock_call, Layers.{QLocking.lock_caller, QLockLaw.slept_for, SleepLaw.due}};
+ghost use Rattle.plain_layers.specs.{Wholes.IsCoarse, QLocks.{answered_after, handed_on, kept_after, noted_after, parcel_after}};
 
 use crate::kernel::PlainKernel;
 use crate::qlock_edits::PlainQEdit;
 use crate::scheds::PlainSched;
 use event_log::{BufId, CpuId, THREADS, Tid};
 use layer_traits::{
-    BufferCall, Ghost, Layer, Locked, Moves, Outcome, OwnThreads, OwnedThreadLayer, Parcel, Pass,
-    Payload, QEdit, QLockLaw, QOut, SchedAnswer, SchedCall, SchedLaw, SplitEdit, ThreadLayer,
-    WaitList,
+    BufferCall, Ghost, Layer, Locked, MessageSlot, Moves, Outcome, OwnThreads, OwnedThreadLayer,
+    Pass, Payload, QLockCall, QLockLaw, QLockReply, SchedAnswer, SchedCall, SchedLaw, SplitEdit,
+    ThreadLayer, WaitList,
 };
 
 /// A call that is done and has not returned: which it was, its outcome, and the parcel that the
@@ -22,7 +22,7 @@ pub struct Unanswered<E, B> {
     buffer: BufId,
     edit: Ghost<E>,
     outcome: Outcome<B>,
-    parcel: Parcel,
+    message_slot: MessageSlot,
 }
 
 /// One CPU's part of queuing locks as they are specified. A call is one edit of a lock that is
@@ -33,18 +33,19 @@ pub struct PlainQLock<F: Locked> {
     sched: PlainSched<PlainQEdit<F, F::Release>>,
     // The buffer for whose lock each thread slept, until its call returns.
     slept: [Option<BufId>; THREADS],
-    kept: Option<Unanswered<PlainQEdit<F, F::Release>, QOut<F::Brought>>>,
+    kept: Option<Unanswered<PlainQEdit<F, F::Release>, QLockReply<F::Response>>>,
 }
 
 /// Returns the thread that calls.
-fn caller<F: Locked>(call: &QEdit<F::Handed, F::Release>) -> Tid
-    ensures { (parcel : Parcel)
-        → result ≡ lock_caller F.rules (lock_meant F.meant call.now parcel) }
+fn caller<F: Locked>(call: &QLockCall<F::Request, F::Release>) -> Tid
+    ensures { (message_slot : MessageSlot)
+        → result ≡ lock_caller F.protocol
+        (abstract_lock_call F.abstract_call call.now message_slot) }
 {
     match call {
-        QEdit::Acquire(t) => *t,
-        QEdit::Inside(edit) => F::caller(edit),
-        QEdit::Release(last) => F::last_caller(*last),
+        QLockCall::Acquire(t) => *t,
+        QLockCall::Inside(edit) => F::caller(edit),
+        QLockCall::Release(last) => F::last_caller(*last),
     }
 }
 
@@ -62,9 +63,9 @@ fn has_slept(slept: &[Option<BufId>; THREADS], t: Tid) -> bool
 
 /// Returns the thread in the hand of a scheduler's part.
 fn hand_of<E: Moves>(sched: &PlainSched<E>) -> Option<Tid>
-    ensures { result ≡ sched.now.own.hand }
+    ensures { result ≡ sched.now.local.hand }
 {
-    sched.own_here().hand()
+    sched.local_here().hand()
 }
 
 /// Records that the sleep of `t` is over.
@@ -95,24 +96,25 @@ fn take_up<E, B: Drop>(
     answer: SchedAnswer<Outcome<B>>,
     payload: &mut Payload,
 ) -> Option<Outcome<B>>
-    ensures kept { kept.new ≡ kept_after hand buffer edit answer payload.old.parcel }
+    ensures kept { kept.new ≡ kept_after hand buffer edit answer payload.old.message_slot }
     ensures answer { result ≡ answered_after kept.old hand answer }
-    ensures parcel { payload.new.parcel ≡ parcel_after kept.old answer payload.old.parcel }
+    ensures message_slot { payload.new.message_slot
+        ≡ parcel_after kept.old answer payload.old.message_slot }
 {
     match answer {
         SchedAnswer::Done => {
             let k = kept.take()?;
-            payload.parcel = k.parcel;
+            payload.message_slot = k.message_slot;
             Some(k.outcome)
         }
         SchedAnswer::Answer(outcome) => {
             if !outcome.slept && hand.is_some() {
-                let parcel = payload.parcel;
+                let message_slot = payload.message_slot;
                 *kept = Some(Unanswered {
                     buffer,
                     edit,
                     outcome,
-                    parcel,
+                    message_slot,
                 });
                 return None;
             }
@@ -130,15 +132,15 @@ fn hand_on<B: Drop>(
     slept: &mut [Option<BufId>; THREADS],
     t: Tid,
     buffer: BufId,
-    outcome: Option<Outcome<QOut<B>>>,
-) -> Option<Outcome<QOut<B>>>
+    outcome: Option<Outcome<QLockReply<B>>>,
+) -> Option<Outcome<QLockReply<B>>>
     requires { t.0 < THREADS }
     ensures slept { slept.new ≡ noted_after t buffer slept.old outcome }
     ensures answer { result ≡ handed_on outcome }
 {
     let outcome = outcome?;
     match outcome.out {
-        QOut::Queued => {
+        QLockReply::Queued => {
             slept[usize::from(t.0)] = Some(buffer);
             None
         }
@@ -151,25 +153,25 @@ fn hand_on<B: Drop>(
 }
 
 impl<F: Locked> ThreadLayer<QLockLaw<F>> for PlainQLock<F> {
-    ghost use Rattle.{std.proofs.Common.{[], false, refl}, layer_traits.specs.{Blocks.QueueBlocks.inner, Layers.Sleeping.NobodySleeps}};
+    ghost use Rattle.{std.proofs.Common.{[], false, refl}, layer_traits.specs.{Blocks.QueueBlocks.inner, Layers.Sleeping.NoSleepers}};
     ghost use Rattle.layer_traits.{specs.Views.Renaming.{renamed_events, viewed}, proofs.KernelRenaming.{known_renamed, starts_viewed}};
     ghost use Rattle.queuing_lock.specs.{Laws.NestedLaws.{locks_lawful, locks_lists, locks_moves_legal, locks_stand}, Nested.{busy_rules, lock_call}};
     ghost use Rattle.{queuing_lock.specs.{Nested.nested_lock_of, Parts.SleptFits}, sleep_wakeup.specs.Laws.NestedLaws.{nested_lawful, nested_lists}};
     ghost use Rattle.sleep_wakeup.specs.{Laws.NestedLaws.{nested_moves_legal, nested_stands}, Nested.{slept_edit, state_of, states}, Parts.own_of};
     ghost use Rattle.plain_layers.specs.{KernelParts.HasThreads, Kernels.{call_room, calls_in, no_site, opening_of}, QLocks.{HasLocks, KeptFits, calls_of}};
-    ghost use Rattle.plain_layers.specs.QLocks.{kept_told, locks_of, plain_lock_moves, plain_lock_rules, under_kept};
+    ghost use Rattle.plain_layers.specs.QLocks.{abstract_kept, locks_of, plain_lock_moves, plain_lock_rules, under_kept};
 
     type Machine = PlainKernel<PlainQEdit<F, F::Release>>;
 
     ghost opening = { λ m. locks_of (opening_of m.opening) };
 
-    ghost seen = { λ m. calls_of (calls_in m) };
+    ghost history = { λ m. calls_of (calls_in m) };
 
-    ghost ActsFor = { λ m c. HasLocks F.rules m c };
+    ghost ActsFor = { λ m c. HasLocks F.protocol m c };
 
     ghost room = { λ m. call_room m };
 
-    ghost site = { λ m. no_site };
+    ghost machine_id = { λ m. no_site };
 
     ghost IsOutside = { λ m c. Unit {0} };
 
@@ -177,16 +179,16 @@ impl<F: Locked> ThreadLayer<QLockLaw<F>> for PlainQLock<F> {
 
     ghost cpu_of = { λ p. p.sched.cpu };
 
-    ghost own = { λ p. record { sleep = own_of (kept_told F.told p.kept) p.sched.own; slept = p.slept } };
+    ghost local = { λ p. record { sleep = own_of (abstract_kept F.abstract_answer p.kept) p.sched.local; slept = p.slept } };
 
-    ghost under_way = { λ p. under_kept (kept_told F.told p.kept) };
+    ghost under_way = { λ p. under_kept (abstract_kept F.abstract_answer p.kept) };
 
     ghost is_inside = { λ p. false };
 
-    ghost Fits = { λ p m. HasThreads (plain_lock_rules F.rules) (plain_lock_moves F.rules) m p.sched.cpu p.sched.homes.items p.sched.own
-        × NobodySleeps (states (inner (opening_of m.opening)))
-        × SleptFits F.rules (locks_of (opening_of m.opening)) p.sched.cpu (calls_of (calls_in m)) p.slept
-        × KeptFits (kept_told F.told p.kept) p.sched.own.hand };
+    ghost Coupled = { λ p m. HasThreads (plain_lock_rules F.protocol) (plain_lock_moves F.protocol) m p.sched.cpu p.sched.homes.items p.sched.local
+        × NoSleepers (states (inner (opening_of m.opening)))
+        × SleptFits F.protocol (locks_of (opening_of m.opening)) p.sched.cpu (calls_of (calls_in m)) p.slept
+        × KeptFits (abstract_kept F.abstract_answer p.kept) p.sched.local.hand };
 
     ghost IsStepwise = { ⊥ };
 
@@ -207,11 +209,11 @@ impl<F: Locked> ThreadLayer<QLockLaw<F>> for PlainQLock<F> {
     }
 
     fn own_threads(&self) -> &OwnThreads {
-        self.sched.own_here()
+        self.sched.local_here()
     }
 
     fn at_once(&self) -> bool {
-        match self.sched.own_here().current() {
+        match self.sched.local_here().current() {
             Some(t) => has_slept(&self.slept, t),
             None => false,
         }
@@ -224,27 +226,27 @@ impl<F: Locked> ThreadLayer<QLockLaw<F>> for PlainQLock<F> {
     fn poll(
         &mut self,
         m: &mut PlainKernel<PlainQEdit<F, F::Release>>,
-        call: BufferCall<QEdit<F::Handed, F::Release>>,
+        call: BufferCall<QLockCall<F::Request, F::Release>>,
         payload: &mut Payload,
-    ) -> Option<Outcome<QOut<F::Brought>>> {
+    ) -> Option<Outcome<QLockReply<F::Response>>> {
         let BufferCall { buffer, edit } = call;
         let t = caller::<F>(&edit);
         if has_slept(&self.slept, t) {
             // The previous owner has handed the lock to this thread.
             wake_up(&mut self.slept, t);
             return Some(Outcome {
-                out: QOut::Acquired,
+                out: QLockReply::Acquired,
                 slept: false,
                 woke: None,
             });
         }
         let whole = PlainQEdit::<F, F::Release>::whole(&edit, payload);
-        let meant = Ghost::of(&whole);
+        let abstract_call = Ghost::of(&whole);
         let waiting = hand_of(&self.sched);
         let step = due(waiting, buffer, edit);
         let answer = self.sched.poll(m, step, payload).unwrap();
         let hand = hand_of(&self.sched);
-        let outcome = take_up(&mut self.kept, hand, buffer, meant, answer, payload);
+        let outcome = take_up(&mut self.kept, hand, buffer, abstract_call, answer, payload);
         hand_on(&mut self.slept, t, buffer, outcome)
     }
 
@@ -258,14 +260,14 @@ impl<F: Locked> ThreadLayer<QLockLaw<F>> for PlainQLock<F> {
         Some(())
     }
 
-    ghost own_cpu = { λ p m fits. (fits.0.0, fits.0.1) };
+    ghost own_cpu = { λ p m coupled. (coupled.0.0, coupled.0.1) };
 
-    ghost stands = { λ p m fits. record {
-      stands = locks_stand F.rules (viewed state_of (opening_of m.opening)) p.sched.cpu (renamed_events slept_edit (calls_in m)) p.sched.own
-          (nested_stands (busy_rules F.rules) (opening_of m.opening) p.sched.cpu (calls_in m) p.sched.own fits.0.2.stands);
-      lists = locks_lists F.rules (viewed state_of (opening_of m.opening)) (renamed_events slept_edit (calls_in m))
-          (nested_lists (busy_rules F.rules) (opening_of m.opening) (calls_in m) fits.0.1.lawful fits.1);
-      awaits = λ t b slept. (fits.2 t b slept).awaits;
+    ghost stands = { λ p m coupled. record {
+      stands = locks_stand F.protocol (viewed state_of (opening_of m.opening)) p.sched.cpu (renamed_events slept_edit (calls_in m)) p.sched.local
+          (nested_stands (busy_rules F.protocol) (opening_of m.opening) p.sched.cpu (calls_in m) p.sched.local coupled.0.2.stands);
+      lists = locks_lists F.protocol (viewed state_of (opening_of m.opening)) (renamed_events slept_edit (calls_in m))
+          (nested_lists (busy_rules F.protocol) (opening_of m.opening) (calls_in m) coupled.0.1.lawful coupled.1);
+      awaits = λ t b slept. (coupled.2 t b slept).awaits;
     } };
 
     ghost inside = { λ p. tt };
@@ -273,11 +275,11 @@ impl<F: Locked> ThreadLayer<QLockLaw<F>> for PlainQLock<F> {
     ghost opens = { λ m c acts. starts_viewed nested_lock_of (viewed state_of (opening_of m.opening))
         (starts_viewed state_of (opening_of m.opening) acts.1.starts) };
 
-    ghost lawful = { λ m c acts. locks_lawful F.rules (viewed state_of (opening_of m.opening)) (renamed_events slept_edit (calls_in m))
-        (nested_lawful (busy_rules F.rules) (opening_of m.opening) (calls_in m) acts.1.lawful) };
+    ghost lawful = { λ m c acts. locks_lawful F.protocol (viewed state_of (opening_of m.opening)) (renamed_events slept_edit (calls_in m))
+        (nested_lawful (busy_rules F.protocol) (opening_of m.opening) (calls_in m) acts.1.lawful) };
 
-    ghost moves_legal = { λ m c acts. locks_moves_legal F.rules (viewed state_of (opening_of m.opening)) (renamed_events slept_edit (calls_in m))
-        (nested_moves_legal (busy_rules F.rules) (opening_of m.opening) (calls_in m) acts.1.lawful) };
+    ghost moves_legal = { λ m c acts. locks_moves_legal F.protocol (viewed state_of (opening_of m.opening)) (renamed_events slept_edit (calls_in m))
+        (nested_moves_legal (busy_rules F.protocol) (opening_of m.opening) (calls_in m) acts.1.lawful) };
 
     ghost known = { λ m c acts. known_renamed lock_call (renamed_events slept_edit (calls_in m)) (known_renamed slept_edit (calls_in m) acts.1.known) };
 
@@ -287,9 +289,9 @@ impl<F: Locked> ThreadLayer<QLockLaw<F>> for PlainQLock<F> {
 
     ghost proper = { λ step m c acts. absurd step };
 
-    ghost busy = { λ p m fits step. absurd step };
+    ghost busy = { λ p m coupled step. absurd step };
 
-    ghost idle = { λ p m fits none. refl };
+    ghost idle = { λ p m coupled none. refl };
 }
 
 impl<F: Locked> OwnedThreadLayer<QLockLaw<F>> for PlainQLock<F> {
@@ -343,23 +345,23 @@ impl<F: Locked> OwnedThreadLayer<QLockLaw<F>> for PlainQLock<F> {
         None
     }
 
-    ghost shown = { λ m c b acts there. locks_shown F.rules (viewed state_of (opening_of m.opening)) (renamed_events slept_edit (calls_in m))
-        (parts_on (λ (p : Self). p) (λ p. Self.Fits p m) (λ (p : Self). Self.Fits p m) (λ p. p.sched.cpu) (Self.MayHold m) (λ p fits. fits))
+    ghost shown = { λ m c b acts there. locks_shown F.protocol (viewed state_of (opening_of m.opening)) (renamed_events slept_edit (calls_in m))
+        (parts_on (λ (p : Self). p) (λ p. Self.Coupled p m) (λ (p : Self). Self.Coupled p m) (λ p. p.sched.cpu) (Self.MayHold m) (λ p coupled. coupled))
         b (λ p. None) (option_map state_of (slice_get m.lists.buffers.items b.0))
-        (nested_shown (busy_rules F.rules) (opening_of m.opening) (calls_in m)
-        (parts_on (λ (p : Self). p) (λ p. Self.Fits p m) (λ (p : Self). Self.Fits p m) (λ p. p.sched.cpu) (Self.MayHold m) (λ p fits. fits))
+        (nested_shown (busy_rules F.protocol) (opening_of m.opening) (calls_in m)
+        (parts_on (λ (p : Self). p) (λ p. Self.Coupled p m) (λ (p : Self). Self.Coupled p m) (λ p. p.sched.cpu) (Self.MayHold m) (λ p coupled. coupled))
         b (λ p. None) (slice_get m.lists.buffers.items b.0)
-        (block_shown (plain_lock_rules F.rules) (plain_lock_moves F.rules) m.opening (calls_in m) m.lists acts.1 (λ (p : Self). Self.Fits p m)
+        (block_shown (plain_lock_rules F.protocol) (plain_lock_moves F.protocol) m.opening (calls_in m) m.lists acts.1 (λ (p : Self). Self.Coupled p m)
         (λ p. p.sched.cpu) (Self.MayHold m) b (there_viewed state_of (opening_of m.opening) (Buffer b)
         (there_viewed nested_lock_of (viewed state_of (opening_of m.opening)) (Buffer b) there)))) };
 
-    ghost queues = { λ m c d acts there. locks_queues F.rules (viewed state_of (opening_of m.opening)) (renamed_events slept_edit (calls_in m))
-        (parts_on (λ (p : Self). p) (λ p. Self.Fits p m) (λ (p : Self). Self.Fits p m) (λ p. p.sched.cpu) (Self.MayHold m) (λ p fits. fits))
+    ghost queues = { λ m c d acts there. locks_queues F.protocol (viewed state_of (opening_of m.opening)) (renamed_events slept_edit (calls_in m))
+        (parts_on (λ (p : Self). p) (λ p. Self.Coupled p m) (λ (p : Self). Self.Coupled p m) (λ p. p.sched.cpu) (Self.MayHold m) (λ p coupled. coupled))
         d (λ p. None) (slice_get m.lists.pending.items d.0)
-        (nested_queues (busy_rules F.rules) (opening_of m.opening) (calls_in m)
-        (parts_on (λ (p : Self). p) (λ p. Self.Fits p m) (λ (p : Self). Self.Fits p m) (λ p. p.sched.cpu) (Self.MayHold m) (λ p fits. fits))
+        (nested_queues (busy_rules F.protocol) (opening_of m.opening) (calls_in m)
+        (parts_on (λ (p : Self). p) (λ p. Self.Coupled p m) (λ (p : Self). Self.Coupled p m) (λ p. p.sched.cpu) (Self.MayHold m) (λ p coupled. coupled))
         d (λ p. None) (slice_get m.lists.pending.items d.0)
-        (queue_shown (plain_lock_rules F.rules) (plain_lock_moves F.rules) m.opening (calls_in m) m.lists acts.1 (λ (p : Self). Self.Fits p m)
+        (queue_shown (plain_lock_rules F.protocol) (plain_lock_moves F.protocol) m.opening (calls_in m) m.lists acts.1 (λ (p : Self). Self.Coupled p m)
         (λ p. p.sched.cpu) (Self.MayHold m) d (there_viewed state_of (opening_of m.opening) (Pending d)
         (there_viewed nested_lock_of (viewed state_of (opening_of m.opening)) (Pending d) there)))) };
 

@@ -22,13 +22,13 @@ impl<E: Moves> Layer<QueueLaw<E>> for PlainQueues<E> {
 
     ghost opening = { λ m. opening_of m.opening };
 
-    ghost seen = { λ m. calls_in m };
+    ghost history = { λ m. calls_in m };
 
-    ghost ActsFor = { λ m c. HasKernel E.rules E.moves m c };
+    ghost ActsFor = { λ m c. HasKernel E.protocol E.moves m c };
 
     ghost room = { λ m. call_room m };
 
-    ghost site = { λ m. no_site };
+    ghost machine_id = { λ m. no_site };
 
     ghost IsOutside = { λ m c. Unit {0} };
 
@@ -36,13 +36,13 @@ impl<E: Moves> Layer<QueueLaw<E>> for PlainQueues<E> {
 
     ghost cpu_of = { λ p. p.cpu };
 
-    ghost own = { λ p. tt };
+    ghost local = { λ p. tt };
 
     ghost under_way = { λ p. None };
 
     ghost is_inside = { λ p. false };
 
-    ghost Fits = { λ p m. HasKernel E.rules E.moves m p.cpu };
+    ghost Coupled = { λ p m. HasKernel E.protocol E.moves m p.cpu };
 
     ghost IsStepwise = { ⊥ };
 
@@ -61,7 +61,7 @@ impl<E: Moves> Layer<QueueLaw<E>> for PlainQueues<E> {
         false
     }
 
-    fn own_here(&self) -> &() {
+    fn local_here(&self) -> &() {
         &()
     }
 
@@ -72,13 +72,13 @@ impl<E: Moves> Layer<QueueLaw<E>> for PlainQueues<E> {
     fn poll(
         &mut self,
         m: &mut PlainKernel<E>,
-        call: QueueCall<E::Handed>,
+        call: QueueCall<E::Request>,
         payload: &mut Payload,
-    ) -> Option<BareQueueAnswer<E::Brought>> {
+    ) -> Option<BareQueueAnswer<E::Response>> {
         Some(m.done(self.cpu, call, payload))
     }
 
-    ghost own_cpu = { λ p m fits. fits };
+    ghost own_cpu = { λ p m coupled. coupled };
 
     ghost moves_legal = { λ m c acts. tt };
 
@@ -88,11 +88,11 @@ impl<E: Moves> Layer<QueueLaw<E>> for PlainQueues<E> {
 
     ghost known = { λ m c acts. acts.1.known };
 
-    ghost stands = { λ p m fits. tt };
+    ghost stands = { λ p m coupled. tt };
 
     ghost inside = { λ p. refl };
 
-    ghost idle = { λ p m fits none. refl };
+    ghost idle = { λ p m coupled none. refl };
 
     ghost legal = { λ m c acts. tt };
 
@@ -100,7 +100,7 @@ impl<E: Moves> Layer<QueueLaw<E>> for PlainQueues<E> {
 
     ghost proper = { λ step m c acts. absurd step };
 
-    ghost busy = { λ p m fits step. absurd step };
+    ghost busy = { λ p m coupled step. absurd step };
 }
 
 impl<E: Moves> OwnedLayer<QueueLaw<E>> for PlainQueues<E> {
@@ -130,10 +130,10 @@ impl<E: Moves> OwnedLayer<QueueLaw<E>> for PlainQueues<E> {
         None
     }
 
-    ghost shown = { λ m c b acts there. block_shown E.rules E.moves m.opening (calls_in m) m.lists acts.1 (λ (p : Self). Self.Fits p m)
+    ghost shown = { λ m c b acts there. block_shown E.protocol E.moves m.opening (calls_in m) m.lists acts.1 (λ (p : Self). Self.Coupled p m)
         (λ p. p.cpu) (Self.MayHold m) b there };
 
-    ghost queues = { λ m c d acts there. queue_shown E.rules E.moves m.opening (calls_in m) m.lists acts.1 (λ (p : Self). Self.Fits p m)
+    ghost queues = { λ m c d acts there. queue_shown E.protocol E.moves m.opening (calls_in m) m.lists acts.1 (λ (p : Self). Self.Coupled p m)
         (λ p. p.cpu) (Self.MayHold m) d there };
 
     ghost holding = { λ step m c held. absurd held };

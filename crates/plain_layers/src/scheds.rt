@@ -17,7 +17,7 @@ use std::marker::PhantomData;
 pub struct PlainSched<E> {
     cpu: CpuId,
     homes: ArrayVec<CpuId, THREADS>,
-    own: OwnThreads,
+    local: OwnThreads,
     edits: PhantomData<E>,
 }
 
@@ -28,13 +28,13 @@ impl<E: Moves> Layer<SchedLaw<E>> for PlainSched<E> {
 
     ghost opening = { λ m. opening_of m.opening };
 
-    ghost seen = { λ m. calls_in m };
+    ghost history = { λ m. calls_in m };
 
-    ghost ActsFor = { λ m c. HasKernel E.rules E.moves m c };
+    ghost ActsFor = { λ m c. HasKernel E.protocol E.moves m c };
 
     ghost room = { λ m. call_room m };
 
-    ghost site = { λ m. no_site };
+    ghost machine_id = { λ m. no_site };
 
     ghost IsOutside = { λ m c. Unit {0} };
 
@@ -42,13 +42,13 @@ impl<E: Moves> Layer<SchedLaw<E>> for PlainSched<E> {
 
     ghost cpu_of = { λ p. p.cpu };
 
-    ghost own = { λ p. p.own };
+    ghost local = { λ p. p.local };
 
     ghost under_way = { λ p. None };
 
     ghost is_inside = { λ p. false };
 
-    ghost Fits = { λ p m. HasThreads E.rules E.moves m p.cpu p.homes.items p.own };
+    ghost Coupled = { λ p m. HasThreads E.protocol E.moves m p.cpu p.homes.items p.local };
 
     ghost IsStepwise = { ⊥ };
 
@@ -60,7 +60,7 @@ impl<E: Moves> Layer<SchedLaw<E>> for PlainSched<E> {
         PlainSched {
             cpu,
             homes: kept_homes(homes),
-            own: threads_at_boot(homes, cpu),
+            local: threads_at_boot(homes, cpu),
             edits: PhantomData,
         }
     }
@@ -69,8 +69,8 @@ impl<E: Moves> Layer<SchedLaw<E>> for PlainSched<E> {
         false
     }
 
-    fn own_here(&self) -> &OwnThreads {
-        &self.own
+    fn local_here(&self) -> &OwnThreads {
+        &self.local
     }
 
     fn look(&mut self, _m: &mut PlainKernel<E>) -> bool {
@@ -80,24 +80,24 @@ impl<E: Moves> Layer<SchedLaw<E>> for PlainSched<E> {
     fn poll(
         &mut self,
         m: &mut PlainKernel<E>,
-        call: SchedCall<E::Handed>,
+        call: SchedCall<E::Request>,
         payload: &mut Payload,
-    ) -> Option<SchedAnswer<E::Brought>> {
+    ) -> Option<SchedAnswer<E::Response>> {
         let homes = self.homes.as_slice();
         match call_beneath::<E>(homes, self.cpu, call) {
             Err(pass) => {
-                pass_locally(&mut self.own, pass);
+                pass_locally(&mut self.local, pass);
                 Some(SchedAnswer::Done)
             }
             Ok(step) => {
                 let answer = m.done(self.cpu, step, payload);
-                let own = &mut self.own;
-                Some(take_answer::<E>(own, homes, self.cpu, answer, payload))
+                let local = &mut self.local;
+                Some(take_answer::<E>(local, homes, self.cpu, answer, payload))
             }
         }
     }
 
-    ghost own_cpu = { λ p m fits. (fits.0, fits.1) };
+    ghost own_cpu = { λ p m coupled. (coupled.0, coupled.1) };
 
     ghost moves_legal = { λ m c acts. tt };
 
@@ -113,13 +113,13 @@ impl<E: Moves> Layer<SchedLaw<E>> for PlainSched<E> {
 
     ghost proper = { λ step m c acts. absurd step };
 
-    ghost busy = { λ p m fits step. absurd step };
+    ghost busy = { λ p m coupled step. absurd step };
 
-    ghost stands = { λ p m fits. fits.2.stands };
+    ghost stands = { λ p m coupled. coupled.2.stands };
 
     ghost inside = { λ p. refl };
 
-    ghost idle = { λ p m fits none. refl };
+    ghost idle = { λ p m coupled none. refl };
 }
 
 impl<E: Moves> OwnedLayer<SchedLaw<E>> for PlainSched<E> {
@@ -149,10 +149,10 @@ impl<E: Moves> OwnedLayer<SchedLaw<E>> for PlainSched<E> {
         None
     }
 
-    ghost shown = { λ m c b acts there. block_shown E.rules E.moves m.opening (calls_in m) m.lists acts.1 (λ (p : Self). Self.Fits p m)
+    ghost shown = { λ m c b acts there. block_shown E.protocol E.moves m.opening (calls_in m) m.lists acts.1 (λ (p : Self). Self.Coupled p m)
         (λ p. p.cpu) (Self.MayHold m) b there };
 
-    ghost queues = { λ m c d acts there. queue_shown E.rules E.moves m.opening (calls_in m) m.lists acts.1 (λ (p : Self). Self.Fits p m)
+    ghost queues = { λ m c d acts there. queue_shown E.protocol E.moves m.opening (calls_in m) m.lists acts.1 (λ (p : Self). Self.Coupled p m)
         (λ p. p.cpu) (Self.MayHold m) d there };
 
     ghost holding = { λ step m c held. absurd held };

@@ -27,5 +27,5 @@ stored words long served at is k within = go (k == (served + 1) % CPUS) refl
 pub words_granted : (words : List ℕ) → length words ≡ CPUS → (given served at : ℕ) → served ≡ given % 2 ^ 64 → at ≡ (served + 1) % 2 ^ 64 % CPUS
     → ((k : ℕ) → k < CPUS → WordFits k given (slice_index words k))
     → (k : ℕ) → k < CPUS → WordFits k (given + 1) (slice_index (slice_set words at (((served + 1) % 2 ^ 64 + 1) % 2 ^ 64)) k)
-words_granted words long given served at is here fits k within =
-    rw (stored words long served at here k within) (fits_after k given served (slice_index words k) within is (fits k within))
+words_granted words long given served at is here coupled k within =
+    rw (stored words long served at here k within) (fits_after k given served (slice_index words k) within is (coupled k within))

@@ -26,14 +26,14 @@ module _ {M : Type 0} (cpu : CpuId) (lock : LockId) (ticket read : ℕ) (old : L
     pub waits_on : (looks : ℕ) → lock_phase cpu (noted looks) ≡ Waiting lock ticket
     waits_on looks = grind (arith, lock_phase_own)
 
-module _ {E B O K : Type 0} (Fit : ℕ → ℕ → K → Type 0) (rules : Rules E B O) (opening : LockId → Option B) (cells : List (Option (Cell K B)))
+module _ {E B O K : Type 0} (Coupling : ℕ → ℕ → K → Type 0) (protocol : Rules E B O) (opening : LockId → Option B) (cells : List (Option (Cell K B)))
     (cpu : CpuId) (lock : LockId) (ticket read : ℕ) where
   -- the table agrees with a log that has one failed poll more
   still_sound : (log : List (Event (Mark E))) → lock_phase cpu log ≡ Waiting lock ticket → read ≡ frees lock log % 2 ^ 64 → (read == ticket) ≡ false
-      → IsSound Fit rules opening log cells → IsSound Fit rules opening (Look cpu lock ticket read ∷ log) cells
+      → IsSound Coupling protocol opening log cells → IsSound Coupling protocol opening (Look cpu lock ticket read ∷ log) cells
   still_sound log waiting reads misses sound = record {
     legal = (((waiting, reads), tt), sound.legal);
-    fits = λ l some. let had = sound.fits l some in record {
+    coupled = λ l some. let had = sound.coupled l some in record {
       cell = had.cell;
       is = had.is;
       words = had.words;
@@ -41,14 +41,14 @@ module _ {E B O K : Type 0} (Fit : ℕ → ℕ → K → Type 0) (rules : Rules 
     };
   }
     where
-      go : (l : LockId) (b : Bool) → same_lock l lock ≡ b → (home : Option B) → HomeFits rules.edited opening log l home
-          → HomeFits rules.edited opening (Look cpu lock ticket read ∷ log) l home
-      go l true same home fits = rw (same_lock_true l lock same)
-          (home_after_miss rules.edited opening lock cpu ticket read log waiting misses home (rw (same_lock_true l lock same) at fits))
-      go l false other home fits = home_elsewhere rules.edited opening l (Look cpu lock ticket read) log (waiting, reads) other home fits
+      go : (l : LockId) (b : Bool) → same_lock l lock ≡ b → (home : Option B) → HomeFits protocol.edited opening log l home
+          → HomeFits protocol.edited opening (Look cpu lock ticket read ∷ log) l home
+      go l true same home coupled = rw (same_lock_true l lock same)
+          (home_after_miss protocol.edited opening lock cpu ticket read log waiting misses home (rw (same_lock_true l lock same) at coupled))
+      go l false other home coupled = home_elsewhere protocol.edited opening l (Look cpu lock ticket read) log (waiting, reads) other home coupled
 
   pub spun_sound : (log : List (Event (Mark E))) → lock_phase cpu log ≡ Waiting lock ticket → read ≡ frees lock log % 2 ^ 64 → (read == ticket) ≡ false
-      → IsSound Fit rules opening log cells → (looks : ℕ) → IsSound Fit rules opening (noted cpu lock ticket read log looks) cells
+      → IsSound Coupling protocol opening log cells → (looks : ℕ) → IsSound Coupling protocol opening (noted cpu lock ticket read log looks) cells
   spun_sound log waiting reads misses sound zero = sound
   spun_sound log waiting reads misses sound (suc looks) =
       still_sound (noted cpu lock ticket read log looks) (waits_on cpu lock ticket read log waiting misses looks)
@@ -56,13 +56,15 @@ module _ {E B O K : Type 0} (Fit : ℕ → ℕ → K → Type 0) (rules : Rules 
       (spun_sound log waiting reads misses sound looks)
 
   -- if the words say that the spot is not yet served, the polls fail
-  pub misses_by : (log : List (Event (Mark E))) → IsSound Fit rules opening log cells → IsSome (opening lock) → lock_phase cpu log ≡ Waiting lock ticket
+  pub misses_by : (log : List (Event (Mark E))) → IsSound Coupling protocol opening log cells → IsSome (opening lock) → lock_phase cpu log ≡ Waiting lock ticket
       → (served : Bool) → served ≡ false
-      → IfSome (cell_at cells lock) (λ c. (taken given spot : ℕ) → Fit taken given c.words → given ≤ spot → spot < given + CPUS → ticket ≡ spot % 2 ^ 64
-      → served ≡ (given == spot))
+      → IfSome (cell_at cells lock)
+      (λ c. (taken given ticket_index : ℕ) → Coupling taken given c.words → given ≤ ticket_index → ticket_index < given + CPUS
+      → ticket ≡ ticket_index % 2 ^ 64
+      → served ≡ (given == ticket_index))
       → (frees lock log % 2 ^ 64 == ticket) ≡ false
   misses_by log sound there waiting served not_served tells =
-      let had = sound.fits lock there in
+      let had = sound.coupled lock there in
       let law = rw had.is at tells in
-      sym (serves_exactly log (words_legal (rules.allowed opening) log sound.legal) cpu lock ticket waiting served
-      (λ spot. law (draws lock log) (frees lock log) spot had.words)) ∙ not_served
+      sym (serves_exactly log (words_legal (protocol.allowed opening) log sound.legal) cpu lock ticket waiting served
+      (λ ticket_index. law (draws lock log) (frees lock log) ticket_index had.words)) ∙ not_served

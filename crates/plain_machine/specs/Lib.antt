@@ -1,5 +1,5 @@
 pub mod Table
-pub mod Fits
+pub mod Coupled
 pub mod Stored
 pub mod Machine
 pub mod Laws

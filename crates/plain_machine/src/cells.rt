@@ -5,7 +5,7 @@ ghost use Rattle.std.specs.Prelude.{◌≡◌, ℕ, Bool, ◌+◌, ◌%◌, ◌^
 ghost use Rattle.{event_log.specs.{Locks.lock_number, declared.ids.TheConstants.CPUS}, layer_traits.specs.Protocols.OneLock.AreDistinct};
 ghost use Rattle.plain_machine.specs.Table.{cell_at, with_cell, worded_cell, looked_cell, given_cell, AreFresh};
 
-use crate::line_words::LineWords;
+use crate::lock_queue_words::LockQueueWords;
 use event_log::{LockId, NoMemory};
 use std::alloc::Global;
 
@@ -22,11 +22,11 @@ pub struct Cell<K, B> {
 ///
 /// Requires: the lock is in the table.
 #[inline(always)]
-pub fn take<K: LineWords, B>(cells: &mut Vec<Option<Cell<K, B>>>, lock: LockId) -> u64
+pub fn take<K: LockQueueWords, B>(cells: &mut Vec<Option<Cell<K, B>>>, lock: LockId) -> u64
     requires { IsSome (cell_at cells.old.items lock) }
     ensures { IfSome (cell_at cells.old.items lock) (λ cell. (words : _)
-        × ((taken given : ℕ) → K.Fit taken given cell.words
-        → (result ≡ taken % 2 ^ 64) × K.Fit (taken + 1) given words)
+        × ((taken given : ℕ) → K.Coupling taken given cell.words
+        → (result ≡ taken % 2 ^ 64) × K.Coupling (taken + 1) given words)
         × (cells.new.items ≡ with_cell cells.old.items lock (worded_cell cell words))) }
 {
     match &mut cells[lock.number()] {
@@ -40,15 +40,16 @@ pub fn take<K: LineWords, B>(cells: &mut Vec<Option<Cell<K, B>>>, lock: LockId) 
 ///
 /// Requires: the lock is in the table.
 #[inline(always)]
-pub fn look<K: LineWords, B>(
+pub fn look<K: LockQueueWords, B>(
     cells: &mut Vec<Option<Cell<K, B>>>,
     lock: LockId,
     ticket: u64,
 ) -> Option<B>
     requires { IsSome (cell_at cells.old.items lock) }
     ensures { IfSome (cell_at cells.old.items lock) (λ cell. (hit : Bool)
-        × ((taken given spot : ℕ) → K.Fit taken given cell.words → given ≤ spot
-        → spot < given + CPUS → ticket ≡ spot % 2 ^ 64 → hit ≡ (given == spot))
+        × ((taken given ticket_index : ℕ) → K.Coupling taken given cell.words → given ≤ ticket_index
+        → ticket_index < given + CPUS → ticket ≡ ticket_index % 2 ^ 64
+        → hit ≡ (given == ticket_index))
         × (result ≡ (if hit then cell.home else None))
         × (cells.new.items ≡ with_cell cells.old.items lock (looked_cell cell hit))) }
 {
@@ -68,12 +69,17 @@ pub fn look<K: LineWords, B>(
 ///
 /// Requires: the lock is in the table.
 #[inline(always)]
-pub fn serves<K: LineWords, B>(cells: &Vec<Option<Cell<K, B>>>, lock: LockId, ticket: u64) -> bool
+pub fn serves<K: LockQueueWords, B>(
+    cells: &Vec<Option<Cell<K, B>>>,
+    lock: LockId,
+    ticket: u64,
+) -> bool
     requires { IsSome (cell_at cells.now.items lock) }
     ensures { IfSome (cell_at cells.now.items lock)
-        (λ cell. (taken given spot : ℕ) → K.Fit taken given cell.words → given ≤ spot
-        → spot < given + CPUS
-        → ticket ≡ spot % 2 ^ 64 → result ≡ (given == spot)) }
+        (λ cell. (taken given ticket_index : ℕ) → K.Coupling taken given cell.words
+        → given ≤ ticket_index
+        → ticket_index < given + CPUS
+        → ticket ≡ ticket_index % 2 ^ 64 → result ≡ (given == ticket_index)) }
 {
     match &cells[lock.number()] {
         Some(cell) => cell.words.serves(ticket),
@@ -85,10 +91,11 @@ pub fn serves<K: LineWords, B>(cells: &Vec<Option<Cell<K, B>>>, lock: LockId, ti
 ///
 /// Requires: the lock is in the table.
 #[inline(always)]
-pub fn give<K: LineWords, B: Drop>(cells: &mut Vec<Option<Cell<K, B>>>, lock: LockId, block: B)
+pub fn give<K: LockQueueWords, B: Drop>(cells: &mut Vec<Option<Cell<K, B>>>, lock: LockId, block: B)
     requires { IsSome (cell_at cells.old.items lock) }
     ensures { IfSome (cell_at cells.old.items lock) (λ cell. (words : _)
-        × ((taken given : ℕ) → K.Fit taken given cell.words → K.Fit taken (given + 1) words)
+        × ((taken given : ℕ) → K.Coupling taken given cell.words
+        → K.Coupling taken (given + 1) words)
         × (cells.new.items ≡ with_cell cells.old.items lock (given_cell words block))) }
 {
     match &mut cells[lock.number()] {
@@ -160,9 +167,9 @@ pub fn empty_table<K: Drop, B: Drop>(
 /// Puts a cell with fresh words and this block in the slot of `lock`.
 ///
 /// Requires: the table has a slot for the lock.
-pub fn put<K: LineWords, B: Drop>(cells: &mut Vec<Option<Cell<K, B>>>, lock: LockId, block: B)
+pub fn put<K: LockQueueWords, B: Drop>(cells: &mut Vec<Option<Cell<K, B>>>, lock: LockId, block: B)
     requires { lock_number lock < length cells.old.items }
-    ensures { (words : _) × K.Fit 0 0 words
+    ensures { (words : _) × K.Coupling 0 0 words
         × (cells.new.items ≡ with_cell cells.old.items lock (given_cell words block)) }
 {
     cells[lock.number()] = Some(Cell {
@@ -174,10 +181,13 @@ pub fn put<K: LineWords, B: Drop>(cells: &mut Vec<Option<Cell<K, B>>>, lock: Loc
 /// Puts a cell with fresh words and its block in the slot of each lock.
 ///
 /// Requires: no lock occurs twice, and the table has a slot for each.
-pub fn fill<K: LineWords, B: Drop>(cells: &mut Vec<Option<Cell<K, B>>>, blocks: Vec<(LockId, B)>)
+pub fn fill<K: LockQueueWords, B: Drop>(
+    cells: &mut Vec<Option<Cell<K, B>>>,
+    blocks: Vec<(LockId, B)>,
+)
     requires distinct { AreDistinct blocks.items }
     requires within { All (λ entry. lock_number entry.0 < length cells.old.items) blocks.items }
-    ensures { AreFresh (K.Fit 0 0) blocks.items cells.new.items }
+    ensures { AreFresh (K.Coupling 0 0) blocks.items cells.new.items }
 {
     for (lock, block) in blocks {
         put(cells, lock, block);

@@ -12,13 +12,13 @@
 #![tactic(auto)]
 
 mod cells;
-mod line_words;
+mod lock_queue_words;
 mod logged_edits;
 mod notes;
 mod plain;
 mod stored_words;
 
-pub use line_words::{GrantLockWords, Granting, LineWords, LockWords};
+pub use lock_queue_words::{GrantLockWords, Granting, LockQueueWords, LockWords};
 pub use logged_edits::LoggedEdit;
 pub use plain::{GrantPlain, Plain};
 pub use stored_words::StoredWords;

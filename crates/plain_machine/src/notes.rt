@@ -39,7 +39,7 @@ pub struct Notes<M> {
 impl<M> Notes<M> {
     ghost use Rattle.event_log.specs.{Grants.ticket_in, WordsLog.draws, WordsLog.frees, WordsLog.lock_phase};
     ghost use Rattle.event_log.specs.declared.events.Event.TheVariants as event;
-    ghost use Rattle.plain_machine.specs.{Machine.{history, room_left}, Stored.repeated};
+    ghost use Rattle.plain_machine.specs.{Machine.{event_list, room_left}, Stored.repeated};
 
     /// Returns an empty log with room for `n` events.
     ///
@@ -47,7 +47,7 @@ impl<M> Notes<M> {
     pub fn with_room(alloc: Global, n: usize) -> Result<Notes<M>, NoMemory>
     where
         M: Drop,
-        ensures history { IfOk result (λ log. history log ≡ []) }
+        ensures event_list { IfOk result (λ log. event_list log ≡ []) }
         ensures room { IfOk result (λ log. room_left log ≡ n) }
     {
         let notes = EventLog::with_room(alloc, n)?;
@@ -61,8 +61,9 @@ impl<M> Notes<M> {
     #[inline(always)]
     pub fn draw(&mut self, cpu: CpuId, lock: LockId)
         requires { 0 < room_left self.old }
-        ensures history { history self.new
-            ≡ event.Draw cpu lock (draws lock (history self.old) % 2 ^ 64) ∷ history self.old }
+        ensures event_list { event_list self.new
+            ≡ event.Draw cpu lock (draws lock (event_list self.old) % 2 ^ 64)
+            ∷ event_list self.old }
         ensures room { room_left self.old ≡ room_left self.new + 1 }
     {
         self.put(Note::Draw(cpu, lock));
@@ -74,9 +75,9 @@ impl<M> Notes<M> {
     #[inline(always)]
     pub fn look(&mut self, cpu: CpuId, lock: LockId)
         requires { 0 < room_left self.old }
-        ensures history { history self.new
-            ≡ event.Look cpu lock (ticket_in (lock_phase cpu (history self.old)))
-            (frees lock (history self.old) % 2 ^ 64) ∷ history self.old }
+        ensures event_list { event_list self.new
+            ≡ event.Look cpu lock (ticket_in (lock_phase cpu (event_list self.old)))
+            (frees lock (event_list self.old) % 2 ^ 64) ∷ event_list self.old }
         ensures room { room_left self.old ≡ room_left self.new + 1 }
     {
         self.put(Note::Look(cpu, lock));
@@ -88,11 +89,11 @@ impl<M> Notes<M> {
     #[inline(never)]
     pub fn looks(&mut self, cpu: CpuId, lock: LockId, looks: usize)
         requires { looks ≤ room_left self.old }
-        ensures history { history self.new
+        ensures event_list { event_list self.new
             ≡ replicate looks
-            (event.Look cpu lock (ticket_in (lock_phase cpu (history self.old)))
-            (frees lock (history self.old) % 2 ^ 64))
-            ++ history self.old }
+            (event.Look cpu lock (ticket_in (lock_phase cpu (event_list self.old)))
+            (frees lock (event_list self.old) % 2 ^ 64))
+            ++ event_list self.old }
         ensures room { room_left self.old ≡ room_left self.new + looks }
         ensures still { looks ≡ 0 → self.new ≡ self.old }
     {
@@ -113,7 +114,7 @@ impl<M> Notes<M> {
     where
         M: Drop,
         requires { 0 < room_left self.old }
-        ensures history { history self.new ≡ event.Free cpu lock mark ∷ history self.old }
+        ensures event_list { event_list self.new ≡ event.Free cpu lock mark ∷ event_list self.old }
         ensures room { room_left self.old ≡ room_left self.new + 1 }
     {
         self.put(Note::Free(cpu, lock));
@@ -125,7 +126,7 @@ impl<M> Notes<M> {
     #[inline(never)]
     fn again(&mut self, times: usize)
         requires { times ≤ room_left self.old }
-        ensures history { history self.new ≡ repeated times (history self.old) }
+        ensures event_list { event_list self.new ≡ repeated times (event_list self.old) }
         ensures room { room_left self.old ≡ room_left self.new + times }
     {
         let full = times / MOST_TIMES;

@@ -3,7 +3,7 @@
 ghost use Rattle.std.specs.Prelude.{◌≡◌, ℕ, ◌%◌, ◌^◌, ◌<◌, [], IsSome, IsNone, IfSome, IfOk, option_map, ◌↔◌};
 
 use crate::cells::{self, Cell};
-use crate::line_words::{GrantLockWords, Granting, LineWords, LockWords};
+use crate::lock_queue_words::{GrantLockWords, Granting, LockQueueWords, LockWords};
 use crate::logged_edits::LoggedEdit;
 use crate::notes::Notes;
 use event_log::{CPUS, CpuId, LockId, NoMemory};
@@ -15,8 +15,8 @@ use std::snapshot::Snapshot;
 /// events. It acts for every CPU. No function after [`Plain::open`] allocates. Its locks are ticket
 /// locks by default.
 #[derive(Drop)]
-pub struct Plain<E: SplitEdit, K: LineWords = LockWords> {
-    log: Notes<Mark<LoggedEdit<E, E::Handed>>>,
+pub struct Plain<E: SplitEdit, K: LockQueueWords = LockWords> {
+    log: Notes<Mark<LoggedEdit<E, E::Request>>>,
     cells: Vec<Option<Cell<K, E::Block>>>,
     // The blocks that the locks opened with, only for clauses.
     opening: Snapshot<Vec<(LockId, E::Block)>>,
@@ -25,10 +25,10 @@ pub struct Plain<E: SplitEdit, K: LineWords = LockWords> {
 /// The owned machine whose locks have a grant word for each waiter.
 pub type GrantPlain<E> = Plain<E, Granting>;
 
-impl<E: SplitEdit, K: LineWords> Plain<E, K> {
+impl<E: SplitEdit, K: LockQueueWords> Plain<E, K> {
     ghost use Rattle.{event_log.specs.{Sections.block_after, declared.ids.{CpuId.CpuId, TheConstants.CPUS}}, layer_traits.specs.Protocols.OneLock.AreDistinct};
-    ghost use Rattle.{layer_traits.specs.Protocols.{OneLock.{SomeoneInside, opened}, WordsProtocol.sections}, plain_machine.specs.Machine.{IsServed, history}};
-    ghost use Rattle.plain_machine.specs.{Machine.room_left, Table.home_at};
+    ghost use Rattle.{layer_traits.specs.Protocols.{OneLock.{SomeoneInside, opened}, WordsProtocol.sections}, plain_machine.specs.Machine.IsServed};
+    ghost use Rattle.plain_machine.specs.{Machine.{event_list, room_left}, Table.home_at};
 
     /// Returns a machine in which no CPU has used a lock or has its block, with room for `room`
     /// events.
@@ -42,11 +42,12 @@ impl<E: SplitEdit, K: LineWords> Plain<E, K> {
         room: usize,
     ) -> Result<Plain<E, K>, NoMemory>
         requires distinct { AreDistinct blocks.items }
-        ensures seen { IfOk result (λ w. history w.log ≡ []) }
+        ensures history { IfOk result (λ w. event_list w.log ≡ []) }
         ensures opening { IfOk result (λ w. opened w.opening.value.items ≡ opened blocks.items) }
         ensures room { IfOk result (λ w. room_left w.log ≡ room) }
         ensures acts { IfOk result (λ w. (c : CpuId) → c.0 < CPUS
-            → IsServed K.Fit E.rules (opened w.opening.value.items) (history w.log) w.cells.items
+            → IsServed K.Coupling E.protocol (opened w.opening.value.items) (event_list w.log)
+            w.cells.items
             c) }
     {
         let opening = Snapshot::of(&blocks);
@@ -66,13 +67,14 @@ impl<E: SplitEdit, K: LineWords> Plain<E, K> {
     /// Requires: the holder acts for some CPU, and the lock is one of the machine.
     pub fn home(&self, lock: LockId) -> Option<&E::Block>
         requires acts { (c : CpuId)
-            × IsServed K.Fit E.rules (opened self.now.opening.value.items) (history self.now.log)
+            × IsServed K.Coupling E.protocol (opened self.now.opening.value.items)
+            (event_list self.now.log)
             self.now.cells.items c }
         requires lock { IsSome (opened self.now.opening.value.items lock) }
-        ensures away { IsNone result ↔ SomeoneInside lock (history self.now.log) }
+        ensures away { IsNone result ↔ SomeoneInside lock (event_list self.now.log) }
         ensures block { IfSome result (λ block.
-            block_after E.rules.edited (opened self.now.opening.value.items) lock
-            (sections (history self.now.log)) ≡ Some block.now) }
+            block_after E.protocol.edited (opened self.now.opening.value.items) lock
+            (sections (event_list self.now.log)) ≡ Some block.now) }
         ensures table { option_map (λ block. block.now) result ≡ home_at self.now.cells.items lock }
     {
         cells::home(&self.cells, lock)
@@ -89,9 +91,9 @@ impl<E: SplitEdit> Plain<E, LockWords> {
     pub fn words(&self, lock: LockId) -> LockWords
         requires acts { (c : _) × ⟦<Plain<E> as Words>⟧.ActsFor self.now c }
         requires lock { IsSome (⟦<Plain<E> as Words>⟧.opening self.now lock) }
-        ensures next { result.next ≡ draws lock (⟦<Plain<E> as Words>⟧.seen self.now) % 2 ^ 64 }
+        ensures next { result.next ≡ draws lock (⟦<Plain<E> as Words>⟧.history self.now) % 2 ^ 64 }
         ensures serving { result.serving
-            ≡ frees lock (⟦<Plain<E> as Words>⟧.seen self.now) % 2 ^ 64 }
+            ≡ frees lock (⟦<Plain<E> as Words>⟧.history self.now) % 2 ^ 64 }
     {
         cells::words(&self.cells, lock)
     }
@@ -108,36 +110,36 @@ impl<E: SplitEdit> Plain<E, Granting> {
         requires acts { (c : _) × ⟦<Plain<E, Granting> as GrantWords>⟧.ActsFor self.now c }
         requires lock { IsSome (⟦<Plain<E, Granting> as GrantWords>⟧.opening self.now lock) }
         ensures next { result.next
-            ≡ tickets lock (⟦<Plain<E, Granting> as GrantWords>⟧.seen self.now) % 2 ^ 64 }
+            ≡ tickets lock (⟦<Plain<E, Granting> as GrantWords>⟧.history self.now) % 2 ^ 64 }
         ensures words { (k : ℕ) → k < CPUS
             → slice_index result.words k
-            ≡ grant_word lock k (⟦<Plain<E, Granting> as GrantWords>⟧.seen self.now) }
+            ≡ grant_word lock k (⟦<Plain<E, Granting> as GrantWords>⟧.history self.now) }
     {
         let granting = cells::words(&self.cells, lock);
         granting.lock
     }
 }
 
-impl<E: SplitEdit, K: LineWords> Words for Plain<E, K> {
+impl<E: SplitEdit, K: LockQueueWords> Words for Plain<E, K> {
     ghost use Rattle.{event_log.specs.declared.ids.TheConstants.CPUS, layer_traits.specs.Protocols.OneLock.opened, plain_machine.specs.Machine.IsServed};
-    ghost use Rattle.plain_machine.specs.Machine.{history, room_left};
+    ghost use Rattle.plain_machine.specs.Machine.{event_list, room_left};
 
     type Edit = E;
 
-    type Mark = Mark<LoggedEdit<E, E::Handed>>;
+    type Mark = Mark<LoggedEdit<E, E::Request>>;
 
     ghost edit_in = { λ mark. mark.edit };
 
     ghost opening = { λ w. opened w.opening.value.items };
 
-    ghost seen = { λ w. history w.log };
+    ghost history = { λ w. event_list w.log };
 
-    ghost ActsFor = { λ w c. IsServed K.Fit E.rules (opened w.opening.value.items) (history w.log) w.cells.items c };
+    ghost ActsFor = { λ w c. IsServed K.Coupling E.protocol (opened w.opening.value.items) (event_list w.log) w.cells.items c };
 
     ghost room = { λ w. room_left w.log };
 
     #[inline(always)]
-    fn mark(handed: E::Handed, edit: E) -> Mark<LoggedEdit<E, E::Handed>> {
+    fn mark(handed: E::Request, edit: E) -> Mark<LoggedEdit<E, E::Request>> {
         Mark {
             edit: LoggedEdit::of(handed, &edit),
         }
@@ -172,7 +174,7 @@ impl<E: SplitEdit, K: LineWords> Words for Plain<E, K> {
         cpu: CpuId,
         lock: LockId,
         block: E::Block,
-        mark: Mark<LoggedEdit<E, E::Handed>>,
+        mark: Mark<LoggedEdit<E, E::Request>>,
     ) {
         cells::give(&mut self.cells, lock, block);
         self.log.free(cpu, lock, mark);
@@ -181,15 +183,15 @@ impl<E: SplitEdit, K: LineWords> Words for Plain<E, K> {
     ghost legal = { λ w c acts. acts.1.legal };
 }
 
-impl<E: SplitEdit, K: LineWords> OwnedWords for Plain<E, K> {
+impl<E: SplitEdit, K: LockQueueWords> OwnedWords for Plain<E, K> {
     ghost use Rattle.{event_log.specs.declared.ids.TheConstants.CPUS, layer_traits.specs.Protocols.OneLock.{AreDistinct, opened}};
-    ghost use Rattle.plain_machine.specs.{Laws.HomeLaws.home_reads, Machine.history, Table.home_at};
+    ghost use Rattle.plain_machine.specs.{Laws.HomeLaws.home_reads, Machine.event_list, Table.home_at};
 
     ghost block_at = { λ w lock. home_at w.cells.items lock };
 
     fn open(alloc: Global, blocks: Vec<(LockId, E::Block)>, room: usize) -> Result<Self, NoMemory>
         requires distinct { AreDistinct blocks.items }
-        ensures seen { IfOk result (λ w. ⟦<Plain<E, K> as Words>⟧.seen w ≡ []) }
+        ensures history { IfOk result (λ w. ⟦<Plain<E, K> as Words>⟧.history w ≡ []) }
         ensures opening { IfOk result
             (λ w. ⟦<Plain<E, K> as Words>⟧.opening w ≡ opened blocks.items) }
         ensures room { IfOk result (λ w. ⟦<Plain<E, K> as Words>⟧.room w ≡ room) }
@@ -203,8 +205,8 @@ impl<E: SplitEdit, K: LineWords> OwnedWords for Plain<E, K> {
         self.home(lock)
     }
 
-    ghost blocks = { λ w c lock acts there. home_reads K.Fit E.rules.edited (opened w.opening.value.items) (history w.log) w.cells.items lock
-        (acts.1.fits lock there) };
+    ghost blocks = { λ w c lock acts there. home_reads K.Coupling E.protocol.edited (opened w.opening.value.items) (event_list w.log) w.cells.items lock
+        (acts.1.coupled lock there) };
 }
 
 impl<E: SplitEdit> UsesGrantWords for Plain<E, Granting> {}

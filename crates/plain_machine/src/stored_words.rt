@@ -3,7 +3,7 @@
 ghost use Rattle.std.specs.Prelude.{◌≡◌, ℕ, ◌+◌, ◌%◌, ◌^◌, ◌<◌, ◌≤◌, ◌==◌};
 ghost use Rattle.event_log.specs.declared.ids.TheConstants.{CPUS};
 
-use crate::LineWords;
+use crate::LockQueueWords;
 
 /// The words of a ticket lock whose holder releases it by a store, and the ticket that is served. A
 /// give needs it, because it stores the next ticket and has no ticket as an argument. All are
@@ -18,8 +18,8 @@ pub struct StoredWords {
     pub served: u64,
 }
 
-impl LineWords for StoredWords {
-    ghost Fit = { λ taken given w. (w.next ≡ taken % 2 ^ 64) × (w.serving ≡ given % 2 ^ 64) × (w.served ≡ given % 2 ^ 64) };
+impl LockQueueWords for StoredWords {
+    ghost Coupling = { λ taken given w. (w.next ≡ taken % 2 ^ 64) × (w.serving ≡ given % 2 ^ 64) × (w.served ≡ given % 2 ^ 64) };
 
     fn fresh() -> StoredWords {
         StoredWords {

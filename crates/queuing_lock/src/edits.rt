@@ -1,112 +1,113 @@
 //! What the calls on a queuing lock do to its block.
 
 ghost use Rattle.std.specs.Prelude.{◌≡◌};
-ghost use Rattle.{layer_traits.specs.{Layers.QLocking.wait_list_for, Blocks.Payloads.lock_told}, queuing_lock.specs.Nested.{busy_rules, leaving}};
-ghost use Rattle.queuing_lock.specs.Nested.{section_meant};
+ghost use Rattle.{layer_traits.specs.{Layers.QLocking.wait_list_for, Blocks.Payloads.abstract_lock_answer}, queuing_lock.specs.Nested.{busy_rules, leaving}};
+ghost use Rattle.queuing_lock.specs.Nested.{abstract_lock_section};
 
 use event_log::Tid;
 use layer_traits::{
-    Locked, Parcel, QEdit, QOut, Side, Sleeps, WaitList, Wake, WakeWaiter, WholeLocked, WholeSleeps,
+    Locked, MessageSlot, QLockCall, QLockReply, Side, Sleeps, WaitList, Wake, WakeWaiter,
+    WholeLocked, WholeSleeps,
 };
 
 /// A call on a queuing lock, as a section of the layer that lets threads sleep.
 #[derive(Clone, Copy)]
-pub struct QLockEdit<F, R> {
+pub struct QLockSection<F, R> {
     /// The call.
-    pub edit: QEdit<F, R>,
+    pub edit: QLockCall<F, R>,
 }
 
 /// What a queuing lock guards, with the busy word that names its owner. The threads that sleep for
 /// the lock are in the waiting lists of the layer below.
 #[derive(Drop)]
-pub struct QBlock<B> {
+pub struct QLockBlock<B> {
     /// The owner, if there is one.
     pub busy: Option<Tid>,
     /// What the edits above change.
     pub above: B,
 }
 
-impl<F: Locked> Sleeps for QLockEdit<F, F::Release> {
-    type Block = QBlock<F::Block>;
+impl<F: Locked> Sleeps for QLockSection<F, F::Release> {
+    type Block = QLockBlock<F::Block>;
 
-    type Out = QOut<F::Out>;
+    type Out = QLockReply<F::Out>;
 
-    type Handed = QLockEdit<F::Handed, F::Release>;
+    type Request = QLockSection<F::Request, F::Release>;
 
-    type Brought = QOut<F::Brought>;
+    type Response = QLockReply<F::Response>;
 
-    ghost rules = { busy_rules F.rules };
+    ghost protocol = { busy_rules F.protocol };
 
-    ghost meant = { section_meant F.meant };
+    ghost abstract_call = { abstract_lock_section F.abstract_call };
 
-    ghost told = { lock_told F.told };
+    ghost abstract_answer = { abstract_lock_answer F.abstract_answer };
 
     #[inline(always)]
-    fn caller(handed: &QLockEdit<F::Handed, F::Release>) -> Tid {
+    fn caller(handed: &QLockSection<F::Request, F::Release>) -> Tid {
         match &handed.edit {
-            QEdit::Acquire(t) => *t,
-            QEdit::Inside(inside) => F::caller(inside),
-            QEdit::Release(last) => F::last_caller(*last),
+            QLockCall::Acquire(t) => *t,
+            QLockCall::Inside(inside) => F::caller(inside),
+            QLockCall::Release(last) => F::last_caller(*last),
         }
     }
 
     fn whole(
-        handed: &QLockEdit<F::Handed, F::Release>,
-        parcel: &Parcel,
-    ) -> QLockEdit<F, F::Release> {
+        handed: &QLockSection<F::Request, F::Release>,
+        message_slot: &MessageSlot,
+    ) -> QLockSection<F, F::Release> {
         match &handed.edit {
-            QEdit::Acquire(t) => QLockEdit {
-                edit: QEdit::Acquire(*t),
+            QLockCall::Acquire(t) => QLockSection {
+                edit: QLockCall::Acquire(*t),
             },
-            QEdit::Inside(inside) => QLockEdit {
-                edit: QEdit::Inside(F::whole(inside, parcel)),
+            QLockCall::Inside(inside) => QLockSection {
+                edit: QLockCall::Inside(F::whole(inside, message_slot)),
             },
-            QEdit::Release(last) => QLockEdit {
-                edit: QEdit::Release(*last),
+            QLockCall::Release(last) => QLockSection {
+                edit: QLockCall::Release(*last),
             },
         }
     }
 
     #[inline(always)]
-    fn apply_handed(
-        handed: &QLockEdit<F::Handed, F::Release>,
+    fn apply_request(
+        handed: &QLockSection<F::Request, F::Release>,
         first: Option<Tid>,
-        block: &mut QBlock<F::Block>,
-        parcel: &mut Parcel,
-    ) -> QOut<F::Brought> {
+        block: &mut QLockBlock<F::Block>,
+        message_slot: &mut MessageSlot,
+    ) -> QLockReply<F::Response> {
         match &handed.edit {
-            QEdit::Acquire(t) => {
+            QLockCall::Acquire(t) => {
                 if block.busy.is_some() {
-                    return QOut::Queued;
+                    return QLockReply::Queued;
                 }
                 block.busy = Some(*t);
-                QOut::Acquired
+                QLockReply::Acquired
             }
-            QEdit::Inside(inside) => {
-                QOut::Did(F::apply_handed(inside, &mut block.above, parcel))
+            QLockCall::Inside(inside) => {
+                QLockReply::Did(F::apply_request(inside, &mut block.above, message_slot))
             }
-            QEdit::Release(last) => {
+            QLockCall::Release(last) => {
                 block.busy = first;
-                QOut::Released(F::apply_last(*last, &mut block.above))
+                QLockReply::Released(F::apply_last(*last, &mut block.above))
             }
         }
     }
 
     #[inline(always)]
-    fn joins(brought: &QOut<F::Brought>) -> Option<WaitList> {
-        match brought {
-            QOut::Queued => Some(WaitList::Sleepers),
-            QOut::Released(last) => wait_list(F::waits(last)),
-            QOut::Acquired | QOut::Did(_) => None,
+    fn joins(response: &QLockReply<F::Response>) -> Option<WaitList> {
+        match response {
+            QLockReply::Queued => Some(WaitList::Sleepers),
+            QLockReply::Released(last) => wait_list(F::waits(last)),
+            QLockReply::Acquired | QLockReply::Did(_) => None,
         }
     }
 
     #[inline(always)]
-    fn leaves(brought: &QOut<F::Brought>) -> Wake {
-        match brought {
-            QOut::Did(inside) => leave(F::signals(inside)),
-            QOut::Released(_) => Wake::FirstSleeper,
-            QOut::Acquired | QOut::Queued => Wake::Nobody,
+    fn leaves(response: &QLockReply<F::Response>) -> Wake {
+        match response {
+            QLockReply::Did(inside) => leave(F::signals(inside)),
+            QLockReply::Released(_) => Wake::FirstSleeper,
+            QLockReply::Acquired | QLockReply::Queued => Wake::Nobody,
         }
     }
 }
@@ -135,27 +136,30 @@ fn leave(signal: WakeWaiter) -> Wake
     }
 }
 
-impl<F: WholeLocked> WholeSleeps for QLockEdit<F, F::Release> {
-    fn hand_on(self, parcel: &mut Parcel) -> QLockEdit<F::Handed, F::Release> {
+impl<F: WholeLocked> WholeSleeps for QLockSection<F, F::Release> {
+    fn hand_on(self, message_slot: &mut MessageSlot) -> QLockSection<F::Request, F::Release> {
         match self.edit {
-            QEdit::Acquire(t) => QLockEdit {
-                edit: QEdit::Acquire(t),
+            QLockCall::Acquire(t) => QLockSection {
+                edit: QLockCall::Acquire(t),
             },
-            QEdit::Inside(inside) => QLockEdit {
-                edit: QEdit::Inside(inside.hand_on(parcel)),
+            QLockCall::Inside(inside) => QLockSection {
+                edit: QLockCall::Inside(inside.hand_on(message_slot)),
             },
-            QEdit::Release(last) => QLockEdit {
-                edit: QEdit::Release(last),
+            QLockCall::Release(last) => QLockSection {
+                edit: QLockCall::Release(last),
             },
         }
     }
 
-    fn bring_back(brought: QOut<F::Brought>, parcel: &Parcel) -> QOut<F::Out> {
-        match brought {
-            QOut::Acquired => QOut::Acquired,
-            QOut::Queued => QOut::Queued,
-            QOut::Did(out) => QOut::Did(F::bring_back(out, parcel)),
-            QOut::Released(out) => QOut::Released(F::bring_back(out, parcel)),
+    fn bring_back(
+        response: QLockReply<F::Response>,
+        message_slot: &MessageSlot,
+    ) -> QLockReply<F::Out> {
+        match response {
+            QLockReply::Acquired => QLockReply::Acquired,
+            QLockReply::Queued => QLockReply::Queued,
+            QLockReply::Did(out) => QLockReply::Did(F::bring_back(out, message_slot)),
+            QLockReply::Released(out) => QLockReply::Released(F::bring_back(out, message_slot)),
         }
     }
 }

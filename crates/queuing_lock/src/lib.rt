@@ -5,7 +5,7 @@
 //!
 //! ```text
 //! let mut part = QLock::<S>::part(CpuId(0), &homes, 1);
-//! let edit = QEdit::Acquire(Tid(3));
+//! let edit = QLockCall::Acquire(Tid(3));
 //! let call = BufferCall { buffer: BufId(0), edit };
 //! let outcome = part.poll(&mut machine, call, &mut payload); // None: poll it again
 //! ```
@@ -17,5 +17,5 @@ mod qlock;
 mod slept;
 
 pub use blocks::lock_blocks;
-pub use edits::{QBlock, QLockEdit};
+pub use edits::{QLockBlock, QLockSection};
 pub use qlock::QLock;

@@ -1,11 +1,11 @@
 //! Queuing locks.
 
-use crate::edits::QLockEdit;
+use crate::edits::QLockSection;
 use crate::slept::Slept;
 use event_log::{BufId, CpuId, Tid};
 use layer_traits::{
-    BufferCall, Locked, Outcome, OwnThreads, OwnedThreadLayer, Pass, Payload, QEdit, QLockLaw,
-    QOut, SleepLaw, Sleeps, ThreadLayer, WaitList,
+    BufferCall, Locked, Outcome, OwnThreads, OwnedThreadLayer, Pass, Payload, QLockCall, QLockLaw,
+    QLockReply, SleepLaw, Sleeps, ThreadLayer, WaitList,
 };
 
 /// One CPU's part of queuing locks over a part `S` of a layer that lets threads sleep. For each
@@ -16,7 +16,7 @@ pub struct QLock<S> {
     slept: Slept,
 }
 
-impl<F: Locked, S: ThreadLayer<SleepLaw<QLockEdit<F, F::Release>>>> ThreadLayer<QLockLaw<F>>
+impl<F: Locked, S: ThreadLayer<SleepLaw<QLockSection<F, F::Release>>>> ThreadLayer<QLockLaw<F>>
     for QLock<S> {
     ghost use Rattle.std.proofs.Common.{map, option_map, ap, ◌∙◌};
     ghost use Rattle.{event_log.{specs.Actions.renamed, proofs.Renaming.legal_renamed}, layer_traits.specs.Views.Renaming.{renamed_edit, renamed_events}};
@@ -29,13 +29,13 @@ impl<F: Locked, S: ThreadLayer<SleepLaw<QLockEdit<F, F::Release>>>> ThreadLayer<
 
     ghost opening = { λ m. viewed nested_lock_of (S.opening m) };
 
-    ghost seen = { λ m. renamed_events lock_call (S.seen m) };
+    ghost history = { λ m. renamed_events lock_call (S.history m) };
 
     ghost ActsFor = { λ m c. S.ActsFor m c };
 
     ghost room = { λ m. S.room m };
 
-    ghost site = { λ m. S.site m };
+    ghost machine_id = { λ m. S.machine_id m };
 
     ghost IsOutside = { λ m c. S.IsOutside m c };
 
@@ -43,15 +43,15 @@ impl<F: Locked, S: ThreadLayer<SleepLaw<QLockEdit<F, F::Release>>>> ThreadLayer<
 
     ghost cpu_of = { λ p. S.cpu_of p.lower };
 
-    ghost own = { λ p. record { sleep = S.own p.lower; slept = p.slept.buffers } };
+    ghost local = { λ p. record { sleep = S.local p.lower; slept = p.slept.buffers } };
 
     ghost under_way = { λ p. option_map (renamed_sched lock_call) (S.under_way p.lower) };
 
     ghost is_inside = { λ p. S.is_inside p.lower };
 
-    ghost Fits = { λ p m. S.Fits p.lower m
-        × SleptFits F.rules (viewed nested_lock_of (S.opening m)) (S.cpu_of p.lower) (renamed_events lock_call (S.seen m)) p.slept.buffers
-        × DeferredFits (option_map (renamed_sched lock_call) (S.under_way p.lower)) (S.own p.lower).deferred (S.own p.lower).threads.hand };
+    ghost Coupled = { λ p m. S.Coupled p.lower m
+        × SleptFits F.protocol (viewed nested_lock_of (S.opening m)) (S.cpu_of p.lower) (renamed_events lock_call (S.history m)) p.slept.buffers
+        × DeferredFits (option_map (renamed_sched lock_call) (S.under_way p.lower)) (S.local p.lower).deferred (S.local p.lower).threads.hand };
 
     ghost IsStepwise = { S.IsStepwise };
 
@@ -98,16 +98,16 @@ impl<F: Locked, S: ThreadLayer<SleepLaw<QLockEdit<F, F::Release>>>> ThreadLayer<
     fn poll(
         &mut self,
         m: &mut S::Machine,
-        call: BufferCall<QEdit<F::Handed, F::Release>>,
+        call: BufferCall<QLockCall<F::Request, F::Release>>,
         payload: &mut Payload,
-    ) -> Option<Outcome<QOut<F::Brought>>> {
+    ) -> Option<Outcome<QLockReply<F::Response>>> {
         let BufferCall { buffer, edit } = call;
-        let edit = QLockEdit { edit };
-        let t = <QLockEdit<F, F::Release> as Sleeps>::caller(&edit);
+        let edit = QLockSection { edit };
+        let t = <QLockSection<F, F::Release> as Sleeps>::caller(&edit);
         if self.slept.asks_again(&edit.edit) {
             self.slept.over(t);
             return Some(Outcome {
-                out: QOut::Acquired,
+                out: QLockReply::Acquired,
                 slept: false,
                 woke: None,
             });
@@ -123,23 +123,23 @@ impl<F: Locked, S: ThreadLayer<SleepLaw<QLockEdit<F, F::Release>>>> ThreadLayer<
         self.lower.pass(m, call, payload)
     }
 
-    ghost own_cpu = { λ p m fits. S.own_cpu p.lower m fits.0 };
+    ghost own_cpu = { λ p m coupled. S.own_cpu p.lower m coupled.0 };
 
-    ghost stands = { λ p m fits. record {
-      stands = locks_stand F.rules (S.opening m) (S.cpu_of p.lower) (S.seen m) (S.own p.lower).threads (S.stands p.lower m fits.0).stands;
-      lists = locks_lists F.rules (S.opening m) (S.seen m) (S.stands p.lower m fits.0).lists;
-      awaits = λ t b slept. (fits.1 t b slept).awaits;
+    ghost stands = { λ p m coupled. record {
+      stands = locks_stand F.protocol (S.opening m) (S.cpu_of p.lower) (S.history m) (S.local p.lower).threads (S.stands p.lower m coupled.0).stands;
+      lists = locks_lists F.protocol (S.opening m) (S.history m) (S.stands p.lower m coupled.0).lists;
+      awaits = λ t b slept. (coupled.1 t b slept).awaits;
     } };
 
     ghost inside = { λ p. tt };
 
     ghost opens = { λ m c acts. starts_viewed nested_lock_of (S.opening m) (S.opens m c acts) };
 
-    ghost lawful = { λ m c acts. locks_lawful F.rules (S.opening m) (S.seen m) (S.lawful m c acts) };
+    ghost lawful = { λ m c acts. locks_lawful F.protocol (S.opening m) (S.history m) (S.lawful m c acts) };
 
-    ghost moves_legal = { λ m c acts. locks_moves_legal F.rules (S.opening m) (S.seen m) (S.moves_legal m c acts) };
+    ghost moves_legal = { λ m c acts. locks_moves_legal F.protocol (S.opening m) (S.history m) (S.moves_legal m c acts) };
 
-    ghost known = { λ m c acts. known_renamed lock_call (S.seen m) (S.known m c acts) };
+    ghost known = { λ m c acts. known_renamed lock_call (S.history m) (S.known m c acts) };
 
     ghost legal = { λ m c acts. legal_renamed (renamed_edit lock_call) (S.acts m) (S.legal m c acts) };
 
@@ -147,12 +147,12 @@ impl<F: Locked, S: ThreadLayer<SleepLaw<QLockEdit<F, F::Release>>>> ThreadLayer<
 
     ghost proper = { λ step m c acts. proper_renamed lock_call (S.acts m) (S.proper step m c acts) };
 
-    ghost busy = { λ p m fits step. locks_busy (S.cpu_of p.lower) (S.acts m) (S.is_inside p.lower) (S.busy p.lower m fits.0 step) };
+    ghost busy = { λ p m coupled step. locks_busy (S.cpu_of p.lower) (S.acts m) (S.is_inside p.lower) (S.busy p.lower m coupled.0 step) };
 
-    ghost idle = { λ p m fits none. S.idle p.lower m fits.0 (none_beneath (S.under_way p.lower) none) };
+    ghost idle = { λ p m coupled none. S.idle p.lower m coupled.0 (none_beneath (S.under_way p.lower) none) };
 }
 
-impl<F: Locked, S: OwnedThreadLayer<SleepLaw<QLockEdit<F, F::Release>>>> OwnedThreadLayer<
+impl<F: Locked, S: OwnedThreadLayer<SleepLaw<QLockSection<F, F::Release>>>> OwnedThreadLayer<
     QLockLaw<F>,
 > for QLock<S> {
     ghost use Rattle.{std.{proofs.Common.sym, specs.Prelude.{true, option_map}}, event_log.specs.declared.ids.LockId.TheVariants.{Buffer, Pending}};
@@ -203,13 +203,13 @@ impl<F: Locked, S: OwnedThreadLayer<SleepLaw<QLockEdit<F, F::Release>>>> OwnedTh
         self.lower.pends_here(d, t)
     }
 
-    ghost shown = { λ m c b acts there. locks_shown F.rules (S.opening m) (S.seen m)
-        (parts_on (λ (p : Self). p.lower) (λ p. S.Fits p m) (λ (p : Self). Self.Fits p m) (λ p. S.cpu_of p) (S.MayHold m) (λ p fits. fits.0))
+    ghost shown = { λ m c b acts there. locks_shown F.protocol (S.opening m) (S.history m)
+        (parts_on (λ (p : Self). p.lower) (λ p. S.Coupled p m) (λ (p : Self). Self.Coupled p m) (λ p. S.cpu_of p) (S.MayHold m) (λ p coupled. coupled.0))
         b (λ p. S.block_with p b) (S.block_at m b)
         (S.shown m c b acts (there_viewed nested_lock_of (S.opening m) (Buffer b) there)) };
 
-    ghost queues = { λ m c d acts there. locks_queues F.rules (S.opening m) (S.seen m)
-        (parts_on (λ (p : Self). p.lower) (λ p. S.Fits p m) (λ (p : Self). Self.Fits p m) (λ p. S.cpu_of p) (S.MayHold m) (λ p fits. fits.0))
+    ghost queues = { λ m c d acts there. locks_queues F.protocol (S.opening m) (S.history m)
+        (parts_on (λ (p : Self). p.lower) (λ p. S.Coupled p m) (λ (p : Self). Self.Coupled p m) (λ p. S.cpu_of p) (S.MayHold m) (λ p coupled. coupled.0))
         d (λ p. S.queue_with p d) (S.queue_at m d)
         (S.queues m c d acts (there_viewed nested_lock_of (S.opening m) (Pending d) there)) };
 

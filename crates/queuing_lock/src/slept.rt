@@ -5,7 +5,7 @@ ghost use Rattle.{event_log.specs.declared.ids.TheConstants.THREADS, layer_trait
 ghost use Rattle.queuing_lock.specs.Parts.{slept_left_by, outcome_handed_on};
 
 use event_log::{BufId, THREADS, Tid};
-use layer_traits::{Outcome, QEdit, QOut};
+use layer_traits::{Outcome, QLockCall, QLockReply};
 
 /// For each thread the buffer for whose lock it slept, from the poll in which it fell asleep until
 /// its call returns.
@@ -41,12 +41,12 @@ impl Slept {
     /// Returns whether the call asks again for a lock for which its thread slept. Such a thread
     /// makes no other call, so that no other call consults the record.
     #[inline(always)]
-    pub fn asks_again<F, R>(&self, call: &QEdit<F, R>) -> bool
+    pub fn asks_again<F, R>(&self, call: &QLockCall<F, R>) -> bool
         ensures { result ≡ asks_again self.now.buffers call.now }
     {
         match call {
-            QEdit::Acquire(t) => self.has(*t),
-            QEdit::Inside(_) | QEdit::Release(_) => false,
+            QLockCall::Acquire(t) => self.has(*t),
+            QLockCall::Inside(_) | QLockCall::Release(_) => false,
         }
     }
 
@@ -80,14 +80,14 @@ impl Slept {
         &mut self,
         t: Tid,
         buffer: BufId,
-        outcome: Outcome<QOut<B>>,
-    ) -> Option<Outcome<QOut<B>>>
+        outcome: Outcome<QLockReply<B>>,
+    ) -> Option<Outcome<QLockReply<B>>>
         requires { t.0 < THREADS }
         ensures slept { self.new.buffers ≡ slept_left_by t buffer self.old.buffers outcome }
         ensures complete { result ≡ outcome_handed_on outcome }
     {
         match outcome.out {
-            QOut::Queued => {
+            QLockReply::Queued => {
                 self.put(t, buffer);
                 None
             }

@@ -16,7 +16,7 @@ use Rattle.layer_traits.proofs.{CallLemmas.{moves_lawful, moves_others, moves_ov
 use Rattle.layer_traits.proofs.PlaceLemmas.{current_at, current_new, hand_free, hand_at, pending_at, stands_finished, stands_moved, stands_others}
 use Rattle.{layer_traits.proofs.PlaceLemmas.{stands_pushed, stands_switched, stands_taken, home_there}, scheduler.specs.Owns.{MayFinish, MaySettle}}
 use Rattle.scheduler.specs.{Owns.{MayTake, local_after}, Parts.{IsCalling, SchedPartFits, UnderFits, sched_call, sched_under}}
-use Rattle.layer_traits.specs.declared.queue_edits.QueueAnswer.TheVariants as told
+use Rattle.layer_traits.specs.declared.queue_edits.QueueAnswer.TheVariants as abstract_answer
 use Rattle.layer_traits.specs.declared.scheds.SchedCall.TheVariants as call
 
 -- a thread that has a home is one of those that the list of homes counts
@@ -33,14 +33,14 @@ asleep_away w asleep = grind arith
 
 module _ {E : Type 0} (homes : List CpuId) (c : CpuId) where
   -- the CPU's private state determines which scheduler's call it is
-  same_call : {O : Type 0} (mv : MoveRules E O) (s : SchedCall E) (q : QueueCall E) (own : Threads) → StateFor mv s own → queue_call homes c s ≡ Some q
-      → sched_call q own.current ≡ s
-  same_call mv s q own state is = grind arith
+  same_call : {O : Type 0} (mv : MoveRules E O) (s : SchedCall E) (q : QueueCall E) (local : Threads) → StateFor mv s local → queue_call homes c s ≡ Some q
+      → sched_call q local.current ≡ s
+  same_call mv s q local state is = grind arith
 
-module _ {E B O : Type 0} (rules : Rules E B O) (mv : MoveRules E O) (opening : LockId → Option (QueueBlock B)) (wakes : WakesSleepers rules mv)
+module _ {E B O : Type 0} (protocol : Rules E B O) (mv : MoveRules E O) (opening : LockId → Option (QueueBlock B)) (wakes : WakesSleepers protocol mv)
     (opens : StartsWell opening) where
   abbrev K : Kernel E B O
-  K = kernel rules mv opening
+  K = kernel protocol mv opening
 
   abbrev H : List CpuId
   H = homes_in opening
@@ -54,60 +54,60 @@ module _ {E B O : Type 0} (rules : Rules E B O) (mv : MoveRules E O) (opening : 
   -- the layer above allows the edit of a call, if it is one
   abbrev pub UpperNow : CpuId → List (QueueEvent E) → SchedCall E → Type 0
   UpperNow c past (call.Pass p) = Unit {0}
-  UpperNow c past (call.OnBuffer b e) = rules.allowed K.opening (buffer_sections past) (section c (Buffer b) e)
+  UpperNow c past (call.OnBuffer b e) = protocol.allowed K.opening (buffer_sections past) (section c (Buffer b) e)
 
   upper_stays : (c : CpuId) (past more : List (QueueEvent E)) (s : SchedCall E) → EditStays K c past s → AreOthers cpu_of_queue_event c more
       → Lawful (more ++ past) → UpperNow c (more ++ past) s
   upper_stays c past more s given given' lawful = grind arith
 
-  module _ (c : CpuId) (past : List (QueueEvent E)) (own : Threads) (lawful : Lawful past) (stands : Stands H c (moves_in K past) own) where
+  module _ (c : CpuId) (past : List (QueueEvent E)) (local : Threads) (lawful : Lawful past) (stands : Stands H c (moves_in K past) local) where
     moves : AreMoves H (moves_in K past)
     moves = moves_lawful K wakes past lawful
 
     -- the thread that runs may end
-    pub finish_ok : MayFinish own
+    pub finish_ok : MayFinish local
     finish_ok t runs =
-        let at = current_at H c (moves_in K past) own moves stands t runs in
-        (known t c at.0, not_counted t own.ended at.3)
+        let at = current_at H c (moves_in K past) local moves stands t runs in
+        (known t c at.0, not_counted t local.ended at.3)
 
     -- the CPU's private state and the layer above allow a call at the shared queues
-    allowed_now : (s : SchedCall E) (q : QueueCall E) → StateFor mv s own → queue_call H c s ≡ Some q → UpperNow c past s → CallAllowed K past c q
+    allowed_now : (s : SchedCall E) (q : QueueCall E) → StateFor mv s local → queue_call H c s ≡ Some q → UpperNow c past s → CallAllowed K past c q
     allowed_now (call.Pass (MakeReady t)) q state is upper =
         let pushed : Push (queue_for H c t) t ≡ q = cc in
-        let held = hand_at H c (moves_in K past) own moves stands t state in
+        let held = hand_at H c (moves_in K past) local moves stands t state in
         let home = home_there c (home_of H t) (away_known H (moves_in K past) t moves (ap is_home held)) in
         subst (CallAllowed K past c) pushed (record { held = held; home = home })
     allowed_now (call.OnBuffer b e) q state is upper =
         let edits : OnBuffer b e ≡ q = cc in
-        let at = current_at H c (moves_in K past) own moves stands (mv.caller e) state.0 in
+        let at = current_at H c (moves_in K past) local moves stands (mv.caller e) state.0 in
         let caller : MayEditFor H (moves_in K past) c (mv.caller e) =
-        record { at_home = at.1; home = at.0; empty = hand_free H c (moves_in K past) own moves stands state.1 } in
+        record { at_home = at.1; home = at.0; empty = hand_free H c (moves_in K past) local moves stands state.1 } in
         subst (CallAllowed K past c) edits (record { caller = caller; upper = upper })
     allowed_now other q state is upper = let taken : TakeAll c ≡ q = cc in subst (CallAllowed K past c) taken refl
 
     -- a call that touches nothing shared keeps the agreement
-    local_stands : (s : SchedCall E) → StateFor mv s own → queue_call H c s ≡ None → Stands H c (moves_in K past) (local_after s own)
-    local_stands (call.Pass Switch) state is = stands_switched H c (moves_in K past) own moves stands state.0
-    local_stands (call.Pass End) state is = stands_finished H c (moves_in K past) own moves stands
+    local_stands : (s : SchedCall E) → StateFor mv s local → queue_call H c s ≡ None → Stands H c (moves_in K past) (local_after s local)
+    local_stands (call.Pass Switch) state is = stands_switched H c (moves_in K past) local moves stands state.0
+    local_stands (call.Pass End) state is = stands_finished H c (moves_in K past) local moves stands
     local_stands other state is = absurd cc
 
   -- environment steps keep the agreement
-  stands_on : (c : CpuId) (more past : List (QueueEvent E)) (own : Threads) → AreOthers cpu_of_queue_event c more → Lawful (more ++ past)
-      → Stands H c (moves_in K past) own → Stands H c (moves_in K (more ++ past)) own
-  stands_on c more past own others lawful stands =
+  stands_on : (c : CpuId) (more past : List (QueueEvent E)) (local : Threads) → AreOthers cpu_of_queue_event c more → Lawful (more ++ past)
+      → Stands H c (moves_in K past) local → Stands H c (moves_in K (more ++ past)) local
+  stands_on c more past local others lawful stands =
       let joined = moves_append K more past in
-      rw joined (stands_others H c (moves_over K more past) (moves_in K past) own (moves_others K c more past others)
+      rw joined (stands_others H c (moves_over K more past) (moves_in K past) local (moves_others K c more past others)
       (subst (AreMoves H) joined (moves_lawful K wakes (more ++ past) lawful)) stands)
 
-  module _ {c below : CpuId} {table : List CpuId} {under : Option (QueueEvent E)} {past : List (QueueEvent E)} {own : Threads} (lawful : Lawful past)
-      (fits : SchedPartFits rules mv opening c below table under past own) (s : SchedCall E)
-      (may : MaySched K c past own (sched_under under own.current) s) where
-    state_of : (o : Option (QueueEvent E)) → UnderFits mv H c o own → MaySched K c past own (sched_under o own.current) s → StateFor mv s own
+  module _ {c below : CpuId} {table : List CpuId} {under : Option (QueueEvent E)} {past : List (QueueEvent E)} {local : Threads} (lawful : Lawful past)
+      (coupled : SchedPartFits protocol mv opening c below table under past local) (s : SchedCall E)
+      (may : MaySched K c past local (sched_under under local.current) s) where
+    state_of : (o : Option (QueueEvent E)) → UnderFits mv H c o local → MaySched K c past local (sched_under o local.current) s → StateFor mv s local
     state_of o calls may = grind arith
 
     -- the CPU's private state allows the call, at each of its polls
-    pub state : StateFor mv s own
-    state = state_of under fits.calls may
+    pub state : StateFor mv s local
+    state = state_of under coupled.calls may
 
     -- the lock of the call exists
     pub lock_is_there : (q : QueueCall E) → queue_call H c s ≡ Some q → BufferIsThere opening s → IsSome (opening (lock_of q))
@@ -115,12 +115,12 @@ module _ {E B O : Type 0} (rules : Rules E B O) (mv : MoveRules E O) (opening : 
 
     -- the call may be polled at the shared queues
     pub call_may : (q : QueueCall E) → queue_call H c s ≡ Some q → MayQueue (QueueAllowed K) past under (event below q)
-    call_may q is = subst (λ d. MayQueue (QueueAllowed K) past under (event d q)) (sym fits.cpu) (go under fits.calls may)
+    call_may q is = subst (λ d. MayQueue (QueueAllowed K) past under (event d q)) (sym coupled.cpu) (go under coupled.calls may)
       where
-        go : (o : Option (QueueEvent E)) → UnderFits mv H c o own → MaySched K c past own (sched_under o own.current) s
+        go : (o : Option (QueueEvent E)) → UnderFits mv H c o local → MaySched K c past local (sched_under o local.current) s
             → MayQueue (QueueAllowed K) past o (event c q)
         go None calls may = λ more others legal.
-            allowed_now c (more ++ past) own legal (stands_on c more past own others legal fits.stands) s q may.0 is
+            allowed_now c (more ++ past) local legal (stands_on c more past local others legal coupled.stands) s q may.0 is
             (upper_stays c past more s may.1 others legal)
         go (Some e) calls may = grind (arith, same_Some)
 
@@ -130,26 +130,26 @@ module _ {E B O : Type 0} (rules : Rules E B O) (mv : MoveRules E O) (opening : 
       pub local_idle : under ≡ None
       local_idle = grind arith
 
-      pub local_fits : SchedPartFits rules mv opening c below table under past (local_after s own)
+      pub local_fits : SchedPartFits protocol mv opening c below table under past (local_after s local)
       local_fits = record {
-        cpu = fits.cpu;
-        homes = fits.homes;
-        queue = fits.queue;
-        stands = local_stands c past own lawful fits.stands s state none;
-        calls = subst (λ o. UnderFits mv H c o (local_after s own)) (sym local_idle) tt;
+        cpu = coupled.cpu;
+        homes = coupled.homes;
+        queue = coupled.queue;
+        stands = local_stands c past local lawful coupled.stands s state none;
+        calls = subst (λ o. UnderFits mv H c o (local_after s local)) (sym local_idle) tt;
       }
 
-      pub local_polled : (ActsFor : CpuId → Type 0) → SchedPolled K ActsFor c s (Some Done) past past own (local_after s own)
+      pub local_polled : (ActsFor : CpuId → Type 0) → SchedPolled K ActsFor c s (Some Done) past past local (local_after s local)
       local_polled ActsFor = record {
         others = [];
         foreign = λ d acts. tt;
         is = sym (ap (λ o. events_of c o ++ past) none);
         after = after s none;
         answers = answers s none;
-        at_once = λ local. refl;
+        at_once = λ local_is. refl;
       }
         where
-          after : (s : SchedCall E) → queue_call H c s ≡ None → local_after s own ≡ own_after K c past s own
+          after : (s : SchedCall E) → queue_call H c s ≡ None → local_after s local ≡ own_after K c past s local
           after s none = grind arith
 
           answers : (s : SchedCall E) → queue_call H c s ≡ None → answer_to K past s ≡ Some Done
@@ -160,82 +160,83 @@ module _ {E B O : Type 0} (rules : Rules E B O) (mv : MoveRules E O) (opening : 
     module _ (q : QueueCall E) (is : queue_call H c s ≡ Some q) where
       pub waiting_fits : (ActsFor : CpuId → Type 0) → ActsFor c → (new : List (QueueEvent E)) → QueuePolled K ActsFor (event below q) None past new → Lawful new
           → (below' : CpuId) (under' : Option (QueueEvent E)) → below' ≡ below → under' ≡ Some (event below q)
-          → SchedPartFits rules mv opening c below' table under' new own
+          → SchedPartFits protocol mv opening c below' table under' new local
       waiting_fits ActsFor acts new polled legal below' under' same goes = record {
-        cpu = same ∙ fits.cpu;
-        homes = fits.homes;
-        queue = fits.queue;
-        stands = rw polled.is (stands_on c polled.others past own (polled.foreign c acts) (subst Lawful polled.is legal) fits.stands);
-        calls = subst (λ o. UnderFits mv H c o own) (sym goes) calling;
+        cpu = same ∙ coupled.cpu;
+        homes = coupled.homes;
+        queue = coupled.queue;
+        stands = rw polled.is (stands_on c polled.others past local (polled.foreign c acts) (subst Lawful polled.is legal) coupled.stands);
+        calls = subst (λ o. UnderFits mv H c o local) (sym goes) calling;
       }
         where
-          one : sched_call q own.current ≡ s
-          one = same_call H c mv s q own state is
+          one : sched_call q local.current ≡ s
+          one = same_call H c mv s q local state is
 
-          calling : IsCalling mv H c (event below q) own
-          calling = record { cpu = fits.cpu; step = ap (queue_call H c) one ∙ is; state = subst (λ x. StateFor mv x own) (sym one) state }
+          calling : IsCalling mv H c (event below q) local
+          calling = record { cpu = coupled.cpu; step = ap (queue_call H c) one ∙ is; state = subst (λ x. StateFor mv x local) (sym one) state }
 
       -- A poll that completes its call, after these calls of other CPUs.
-      module _ (answer : QueueAnswer O) (before : List (QueueEvent E)) (legal : Lawful (event c q ∷ before)) (stands_so : Stands H c (moves_in K before) own)
+      module _ (answer : QueueAnswer O) (before : List (QueueEvent E)) (legal : Lawful (event c q ∷ before)) (stands_so : Stands H c (moves_in K before) local)
           (answers : answer_of K before q ≡ Some answer) where
         legal_moves : AreMoves H (moves_in K before)
         legal_moves = moves_lawful K wakes before legal.1
 
         -- the result of an edit
-        edit_out : (b : BufId) (e : E) → q ≡ OnBuffer b e → (o : O) × (out_at K before b e ≡ Some o) × (answer ≡ told.Answer o)
+        edit_out : (b : BufId) (e : E) → q ≡ OnBuffer b e → (o : O) × (out_at K before b e ≡ Some o) × (answer ≡ abstract_answer.Answer o)
         edit_out b e edits = grind arith
 
         -- a woken thread is not on its home CPU, and is one of the threads that a machine may have
-        settles : (b : BufId) (e : E) → q ≡ OnBuffer b e → (o : O) → out_at K before b e ≡ Some o → MaySettle (mv.woke o) own
+        settles : (b : BufId) (e : E) → q ≡ OnBuffer b e → (o : O) → out_at K before b e ≡ Some o → MaySettle (mv.woke o) local
         settles b e edits o is u woke =
             let asleep = woken_sleeps K wakes before legal.1 c b e (subst (CallAllowed K before c) edits legal.0) o is u woke in
             let away = asleep_away (where_is H (moves_in K before) u) asleep in
             let home = home_there c (home_of H u) (away_known H (moves_in K before) u legal_moves away) in
-            (known u (or_else c (home_of H u)) home, not_counted u own.ready (away_from H c (moves_in K before) own legal_moves stands_so u away))
+            (known u (or_else c (home_of H u)) home, not_counted u local.ready (away_from H c (moves_in K before) local legal_moves stands_so u away))
 
         -- a taking returns the pending queue
-        all_taken : q ≡ TakeAll c → told.Taken (pending_by (moves_in K before) c) ≡ answer
-        all_taken takes = same_Some (told.Taken (pending_by (moves_in K before) c)) answer (subst (λ x. answer_of K before x ≡ Some answer) takes answers)
+        all_taken : q ≡ TakeAll c → abstract_answer.Taken (pending_by (moves_in K before) c) ≡ answer
+        all_taken takes =
+            same_Some (abstract_answer.Taken (pending_by (moves_in K before) c)) answer (subst (λ x. answer_of K before x ≡ Some answer) takes answers)
 
-        may_take_by : (x : QueueCall E) → q ≡ x → MayTake mv answer own
+        may_take_by : (x : QueueCall E) → q ≡ x → MayTake mv answer local
         may_take_by (Push d t) pushes = grind (arith, same_Some)
         may_take_by (TakeAll d) takes =
             let mine : d ≡ c = subst (CallAllowed K before c) takes legal.0 in
             rw (← all_taken (takes ∙ ap TakeAll mine)) (
-              λ t there. (pending_at H c (moves_in K before) own legal_moves stands_so t there).1,
+              λ t there. (pending_at H c (moves_in K before) local legal_moves stands_so t there).1,
               λ t runs. (
-                known t c (current_at H c (moves_in K before) own legal_moves stands_so t runs).0,
-                current_new H c (moves_in K before) own legal_moves stands_so t runs,
+                known t c (current_at H c (moves_in K before) local legal_moves stands_so t runs).0,
+                current_new H c (moves_in K before) local legal_moves stands_so t runs,
               ),
             )
         may_take_by (OnBuffer b e) edits = let out = edit_out b e edits in rw out.2 (settles b e edits out.0 out.1)
 
-        pushed_done : (d : CpuId) (t : Tid) → q ≡ Push d t → told.Done ≡ answer
-        pushed_done d t pushes = same_Some told.Done answer (subst (λ x. answer_of K before x ≡ Some answer) pushes answers)
+        pushed_done : (d : CpuId) (t : Tid) → q ≡ Push d t → abstract_answer.Done ≡ answer
+        pushed_done d t pushes = same_Some abstract_answer.Done answer (subst (λ x. answer_of K before x ≡ Some answer) pushes answers)
 
         -- what the result leaves agrees with the places after the call
-        taken_stands : q ≡ TakeAll c → Stands H c (moves_in K (event c q ∷ before)) (own_by mv H c answer own)
-        taken_stands takes = rw (takes, ← all_taken takes) (stands_taken H c (moves_in K before) own legal_moves stands_so)
+        taken_stands : q ≡ TakeAll c → Stands H c (moves_in K (event c q ∷ before)) (own_by mv H c answer local)
+        taken_stands takes = rw (takes, ← all_taken takes) (stands_taken H c (moves_in K before) local legal_moves stands_so)
 
-        pushed_stands : (d : CpuId) (t : Tid) → own.hand ≡ Some t → q ≡ Push d t → Stands H c (moves_in K (event c q ∷ before)) (own_by mv H c answer own)
-        pushed_stands d t held pushes = rw (pushes, ← pushed_done d t pushes) (stands_pushed H c (moves_in K before) own legal_moves stands_so d t held)
+        pushed_stands : (d : CpuId) (t : Tid) → local.hand ≡ Some t → q ≡ Push d t → Stands H c (moves_in K (event c q ∷ before)) (own_by mv H c answer local)
+        pushed_stands d t held pushes = rw (pushes, ← pushed_done d t pushes) (stands_pushed H c (moves_in K before) local legal_moves stands_so d t held)
 
-        edited_stands : (b : BufId) (e : E) → own.current ≡ Some (mv.caller e) → own.hand ≡ None → q ≡ OnBuffer b e
-            → Stands H c (moves_in K (event c q ∷ before)) (own_by mv H c answer own)
+        edited_stands : (b : BufId) (e : E) → local.current ≡ Some (mv.caller e) → local.hand ≡ None → q ≡ OnBuffer b e
+            → Stands H c (moves_in K (event c q ∷ before)) (own_by mv H c answer local)
         edited_stands b e runs empty edits =
             let out = edit_out b e edits in
             let may = rw (edits, out.1) at (moves_lawful K wakes (event c q ∷ before) legal).0 in
-            rw (edits, out.2, out.1) (stands_moved H c (moves_in K before) own legal_moves stands_so (Buffer b) (mv.caller e) (mv.slept out.0) (mv.woke out.0)
+            rw (edits, out.2, out.1) (stands_moved H c (moves_in K before) local legal_moves stands_so (Buffer b) (mv.caller e) (mv.slept out.0) (mv.woke out.0)
             may runs empty)
 
-        done_stands : (s : SchedCall E) → StateFor mv s own → queue_call H c s ≡ Some q
-            → Stands H c (moves_in K (event c q ∷ before)) (own_by mv H c answer own)
+        done_stands : (s : SchedCall E) → StateFor mv s local → queue_call H c s ≡ Some q
+            → Stands H c (moves_in K (event c q ∷ before)) (own_by mv H c answer local)
         done_stands (call.Pass (MakeReady t)) state is = pushed_stands (queue_for H c t) t state (cc)
         done_stands (call.OnBuffer b e) state is = edited_stands b e state.0 state.1 (cc)
         done_stands other state is = taken_stands (cc)
 
         -- it is what the call must leave
-        done_after : (s : SchedCall E) → queue_call H c s ≡ Some q → own_by mv H c answer own ≡ own_after K c before s own
+        done_after : (s : SchedCall E) → queue_call H c s ≡ Some q → own_by mv H c answer local ≡ own_after K c before s local
         done_after s is = grind (arith, all_taken, pushed_done)
 
         -- and so is the result
@@ -249,65 +250,65 @@ module _ {E B O : Type 0} (rules : Rules E B O) (mv : MoveRules E O) (opening : 
         joined = polled.others ++ past
 
         last : new ≡ event c q ∷ joined
-        last = polled.is ∙ ap (λ d. event d q ∷ joined) fits.cpu
+        last = polled.is ∙ ap (λ d. event d q ∷ joined) coupled.cpu
 
         legal_last : Lawful (event c q ∷ joined)
         legal_last = subst Lawful last legal
 
-        stands_before : Stands H c (moves_in K joined) own
-        stands_before = stands_on c polled.others past own (polled.foreign c acts) legal_last.1 fits.stands
+        stands_before : Stands H c (moves_in K joined) local
+        stands_before = stands_on c polled.others past local (polled.foreign c acts) legal_last.1 coupled.stands
 
         -- the result may be taken up
-        pub may_take : MayTake mv answer own
+        pub may_take : MayTake mv answer local
         may_take = may_take_by answer joined legal_last stands_before polled.answers q refl
 
         pub done_fits : (below' : CpuId) (under' : Option (QueueEvent E)) → below' ≡ below → under' ≡ None
-            → SchedPartFits rules mv opening c below' table under' new (own_by mv H c answer own)
+            → SchedPartFits protocol mv opening c below' table under' new (own_by mv H c answer local)
         done_fits below' under' same ends = record {
-          cpu = same ∙ fits.cpu;
-          homes = fits.homes;
-          queue = fits.queue;
+          cpu = same ∙ coupled.cpu;
+          homes = coupled.homes;
+          queue = coupled.queue;
           stands = rw last (done_stands answer joined legal_last stands_before polled.answers s state is);
-          calls = subst (λ o. UnderFits mv H c o (own_by mv H c answer own)) (sym ends) tt;
+          calls = subst (λ o. UnderFits mv H c o (own_by mv H c answer local)) (sym ends) tt;
         }
 
-        pub done_polled : SchedPolled K ActsFor c s (Some (answer_by answer)) past new own (own_by mv H c answer own)
+        pub done_polled : SchedPolled K ActsFor c s (Some (answer_by answer)) past new local (own_by mv H c answer local)
         done_polled = record {
           others = polled.others;
           foreign = polled.foreign;
           is = last ∙ sym (ap (λ o. events_of c o ++ joined) is);
           after = done_after answer joined legal_last stands_before polled.answers s is;
           answers = done_answer answer joined legal_last stands_before polled.answers s is;
-          at_once = λ local. refl;
+          at_once = λ local_is. refl;
         }
 
   -- Other CPUs' parts.
 
   -- environment steps keep a part in agreement with the machine
-  grown_fits : {d below : CpuId} {table : List CpuId} {under : Option (QueueEvent E)} {past : List (QueueEvent E)} {own : Threads}
+  grown_fits : {d below : CpuId} {table : List CpuId} {under : Option (QueueEvent E)} {past : List (QueueEvent E)} {local : Threads}
       (more new : List (QueueEvent E)) → AreOthers cpu_of_queue_event d more → new ≡ more ++ past → Lawful new
-      → SchedPartFits rules mv opening d below table under past own → SchedPartFits rules mv opening d below table under new own
-  grown_fits {d} {past = past} {own = own} more new others is legal fits = record {
-    cpu = fits.cpu;
-    homes = fits.homes;
-    queue = fits.queue;
-    stands = subst (λ l. Stands H d (moves_in K l) own) (sym is) (stands_on d more past own others (subst Lawful is legal) fits.stands);
-    calls = fits.calls;
+      → SchedPartFits protocol mv opening d below table under past local → SchedPartFits protocol mv opening d below table under new local
+  grown_fits {d} {past = past} {local = local} more new others is legal coupled = record {
+    cpu = coupled.cpu;
+    homes = coupled.homes;
+    queue = coupled.queue;
+    stands = subst (λ l. Stands H d (moves_in K l) local) (sym is) (stands_on d more past local others (subst Lawful is legal) coupled.stands);
+    calls = coupled.calls;
   }
 
   -- so does one poll of another CPU
   pub other_fits : (ActsFor : CpuId → Type 0) (c d below : CpuId) (table : List CpuId) (under : Option (QueueEvent E)) (q : QueueCall E)
       (result : Option (QueueAnswer O))
-      (past new : List (QueueEvent E)) (own : Threads) → ActsFor d → same_cpu c d ≡ false → QueuePolled K ActsFor (event c q) result past new → Lawful new
-      → SchedPartFits rules mv opening d below table under past own → SchedPartFits rules mv opening d below table under new own
-  other_fits ActsFor c d below table under q None past new own acts other polled legal fits =
-      grown_fits polled.others new (polled.foreign d acts) polled.is legal fits
-  other_fits ActsFor c d below table under q (Some answer) past new own acts other polled legal fits =
-      grown_fits (event c q ∷ polled.others) new (other, polled.foreign d acts) polled.is legal fits
+      (past new : List (QueueEvent E)) (local : Threads) → ActsFor d → same_cpu c d ≡ false → QueuePolled K ActsFor (event c q) result past new → Lawful new
+      → SchedPartFits protocol mv opening d below table under past local → SchedPartFits protocol mv opening d below table under new local
+  other_fits ActsFor c d below table under q None past new local acts other polled legal coupled =
+      grown_fits polled.others new (polled.foreign d acts) polled.is legal coupled
+  other_fits ActsFor c d below table under q (Some answer) past new local acts other polled legal coupled =
+      grown_fits (event c q ∷ polled.others) new (other, polled.foreign d acts) polled.is legal coupled
 
   -- and one more poll of a section that waits
   pub looked_fits : {ActsFor : CpuId → Type 0} {d below below' : CpuId} {table : List CpuId} {under under' : Option (QueueEvent E)}
-      {past new : List (QueueEvent E)} {own : Threads} → Grows ActsFor cpu_of_queue_event past new → ActsFor d → Lawful new → below' ≡ below → under' ≡ under
-      → SchedPartFits rules mv opening d below table under past own → SchedPartFits rules mv opening d below' table under' new own
-  looked_fits {d = d} {table = table} {new = new} {own = own} grows acts legal same goes fits =
-      rw (same, goes) (grown_fits grows.others new (grows.foreign d acts) grows.is legal fits)
+      {past new : List (QueueEvent E)} {local : Threads} → Grows ActsFor cpu_of_queue_event past new → ActsFor d → Lawful new → below' ≡ below → under' ≡ under
+      → SchedPartFits protocol mv opening d below table under past local → SchedPartFits protocol mv opening d below' table under' new local
+  looked_fits {d = d} {table = table} {new = new} {local = local} grows acts legal same goes coupled =
+      rw (same, goes) (grown_fits grows.others new (grows.foreign d acts) grows.is legal coupled)

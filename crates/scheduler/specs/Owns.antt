@@ -13,34 +13,36 @@ use Rattle.layer_traits.specs.declared.scheds.SchedCall.TheVariants as call
 
 -- the thread that runs may end: it has not ended yet
 abbrev pub MayFinish : Threads → Type 0
-MayFinish own = (t : Tid) → own.current ≡ Some t → (t.0 < THREADS) × (is_in t own.ended ≡ false)
+MayFinish local =
+    (t : Tid) → local.current ≡ Some t → (t.0 < THREADS) × (is_in t local.ended ≡ false)
 
 -- the threads of a queue, and after them the thread that runs, may join the run queue: none of them
 -- is in it
 abbrev pub MayJoin : List Tid → Threads → Type 0
-MayJoin queue own =
-    AreApart queue own.ready
-    × ((t : Tid) → own.current ≡ Some t → (t.0 < THREADS) × (is_in t (own.ready ++ queue) ≡ false))
+MayJoin queue local =
+    AreApart queue local.ready
+    × ((t : Tid) → local.current ≡ Some t
+    → (t.0 < THREADS) × (is_in t (local.ready ++ queue) ≡ false))
 
 -- a thread that was woken may become ready: it is not ready yet
 abbrev pub MaySettle : Option Tid → Threads → Type 0
-MaySettle woke own = (t : Tid) → woke ≡ Some t → (t.0 < THREADS) × (is_in t own.ready ≡ false)
+MaySettle woke local = (t : Tid) → woke ≡ Some t → (t.0 < THREADS) × (is_in t local.ready ≡ false)
 
 -- a result of the shared queues may be taken up
 abbrev pub MayTake : {E O : Type 0} → MoveRules E O → QueueAnswer O → Threads → Type 0
-MayTake mv Done own = Unit {0}
-MayTake mv (Taken queue) own = MayJoin queue own
-MayTake mv (Answer out) own = MaySettle (mv.woke out) own
+MayTake mv Done local = Unit {0}
+MayTake mv (Taken queue) local = MayJoin queue local
+MayTake mv (Answer out) local = MaySettle (mv.woke out) local
 
 -- what a pass leaves that touches nothing shared; any other changes nothing
 abbrev pub passed_locally : Pass → Threads → Threads
-passed_locally Switch own = switched own
-passed_locally YieldNow own = own
-passed_locally Drain own = own
-passed_locally (MakeReady t) own = own
-passed_locally End own = finished own
+passed_locally Switch local = switched local
+passed_locally YieldNow local = local
+passed_locally Drain local = local
+passed_locally (MakeReady t) local = local
+passed_locally End local = finished local
 
 -- what a call leaves that touches nothing shared; any other changes nothing
 abbrev pub local_after : {E : Type 0} → SchedCall E → Threads → Threads
-local_after (call.Pass p) own = passed_locally p own
-local_after (call.OnBuffer b e) own = own
+local_after (call.Pass p) local = passed_locally p local
+local_after (call.OnBuffer b e) local = local

@@ -28,26 +28,26 @@ sched_under (Some e) current = Some (sched_call e.call current)
 -- the call pending at the shared queues is this CPU's, is the one of its scheduler's call, and the
 -- CPU's private state allows it
 pub record IsCalling {E O : Type 0} (mv : MoveRules E O) (homes : List CpuId) (c : CpuId)
-    (e : QueueEvent E) (own : Threads) : Type 0 where
+    (e : QueueEvent E) (local : Threads) : Type 0 where
   pub cpu : e.cpu ≡ c
-  pub step : queue_call homes c (sched_call e.call own.current) ≡ Some e.call
-  pub state : StateFor mv (sched_call e.call own.current) own
+  pub step : queue_call homes c (sched_call e.call local.current) ≡ Some e.call
+  pub state : StateFor mv (sched_call e.call local.current) local
 
 -- the same of a call that may be pending
 abbrev pub UnderFits : {E O : Type 0} → MoveRules E O → List CpuId → CpuId → Option (QueueEvent E)
     → Threads → Type 0
-UnderFits mv homes c None own = Unit {0}
-UnderFits mv homes c (Some e) own = IsCalling mv homes c e own
+UnderFits mv homes c None local = Unit {0}
+UnderFits mv homes c (Some e) local = IsCalling mv homes c e local
 
 -- coupling invariant of a part of this CPU and its machine. The lower part is of the same CPU, the
 -- homes are the machine's, and the CPU has a pending queue. Its private state agrees with the
 -- places, and the lower layer's pending call with that state
-pub record SchedPartFits {E B O : Type 0} (rules : Rules E B O) (mv : MoveRules E O)
+pub record SchedPartFits {E B O : Type 0} (protocol : Rules E B O) (mv : MoveRules E O)
     (opening : LockId → Option (QueueBlock B)) (c below : CpuId)
     (table : List CpuId)
-    (under : Option (QueueEvent E)) (past : List (QueueEvent E)) (own : Threads) : Type 0 where
+    (under : Option (QueueEvent E)) (past : List (QueueEvent E)) (local : Threads) : Type 0 where
   pub cpu : below ≡ c
   pub homes : homes_in opening ≡ table
   pub queue : IsSome (opening (Pending c))
-  pub stands : Stands (homes_in opening) c (moves_in (kernel rules mv opening) past) own
-  pub calls : UnderFits mv (homes_in opening) c under own
+  pub stands : Stands (homes_in opening) c (moves_in (kernel protocol mv opening) past) local
+  pub calls : UnderFits mv (homes_in opening) c under local

@@ -3,7 +3,7 @@
 //! No call is given an allocator, and none waits.
 
 ghost use Rattle.std.specs.Prelude.{◌≡◌, Some, None, IfOk, IfErr};
-ghost use Rattle.layer_traits.specs.{declared.payloads.Payload.Payload, Threads.Passes.queue_for, Blocks.Payloads.{call_meant, sched_meant}};
+ghost use Rattle.layer_traits.specs.{declared.payloads.Payload.Payload, Threads.Passes.queue_for, Blocks.Payloads.{abstract_queue_call, abstract_sched_call}};
 ghost use Rattle.layer_traits.specs.Layers.Scheds.{queue_call};
 ghost use Rattle.layer_traits.specs.declared.scheds.SchedCall.TheVariants as calls;
 
@@ -20,17 +20,17 @@ use layer_traits::{Moves, Pass, QueueCall, SchedCall};
 pub fn call_beneath<E: Moves>(
     homes: &[CpuId],
     cpu: CpuId,
-    call: SchedCall<E::Handed>,
-) -> Result<QueueCall<E::Handed>, Pass>
+    call: SchedCall<E::Request>,
+) -> Result<QueueCall<E::Request>, Pass>
     ensures step { IfOk result (λ step. queue_call homes.now cpu call ≡ Some step) }
     ensures pass { IfErr result
         (λ pass. (call ≡ calls.Pass pass) × (queue_call homes.now cpu call ≡ None)) }
     ensures shared { IfOk result (λ step. (payload : Payload)
-        → queue_call homes.now cpu (sched_meant E.meant call payload)
-        ≡ Some (call_meant E.meant step payload)) }
-    ensures local { IfErr result (λ pass. (payload : Payload)
-        → (sched_meant E.meant call payload ≡ calls.Pass pass)
-        × (queue_call homes.now cpu (sched_meant E.meant call payload) ≡ None)) }
+        → queue_call homes.now cpu (abstract_sched_call E.abstract_call call payload)
+        ≡ Some (abstract_queue_call E.abstract_call step payload)) }
+    ensures local_is { IfErr result (λ pass. (payload : Payload)
+        → (abstract_sched_call E.abstract_call call payload ≡ calls.Pass pass)
+        × (queue_call homes.now cpu (abstract_sched_call E.abstract_call call payload) ≡ None)) }
 {
     match call {
         SchedCall::Pass(Pass::YieldNow) => Ok(QueueCall::TakeAll(cpu)),

@@ -6,7 +6,8 @@
 ghost use Rattle.std.specs.Prelude.{◌≡◌, ◌≤◌, length};
 ghost use Rattle.{event_log.specs.declared.ids.TheConstants.THREADS, layer_traits.specs.Threads.{Places.{at_boot, home_of, is_cpu}, Passes.switched}};
 ghost use Rattle.layer_traits.specs.{Threads.Passes.{took_pending, passed_on, finished, own_slept, own_woken}, Layers.Scheds.{own_by, answer_by}};
-ghost use Rattle.{layer_traits.specs.Blocks.Payloads.{queue_told, sched_told}, scheduler.specs.Owns.{MayFinish, MayJoin, MaySettle, MayTake, passed_locally}};
+ghost use Rattle.{layer_traits.specs.Blocks.Payloads.{abstract_queue_answer, abstract_sched_answer}, scheduler.specs.Owns.{MayFinish, MayJoin, MaySettle}};
+ghost use Rattle.scheduler.specs.Owns.{MayTake, passed_locally};
 
 use event_log::{CpuId, Tid};
 use layer_traits::{BareQueueAnswer, Moves, OwnThreads, Pass, Payload, SchedAnswer, WaitList};
@@ -36,66 +37,66 @@ pub fn threads_at_boot(homes: &[CpuId], cpu: CpuId) -> OwnThreads
 
 /// Switches the context: the thread at the head of the run queue runs.
 #[inline(always)]
-fn switch(own: &mut OwnThreads)
-    ensures { own.new ≡ switched own.old }
+fn switch(local: &mut OwnThreads)
+    ensures { local.new ≡ switched local.old }
 {
-    own.current = own.ready.pop();
+    local.current = local.ready.pop();
 }
 
 /// Moves the thread that runs to the ended ones.
 #[inline(always)]
-fn finish(own: &mut OwnThreads)
-    requires { MayFinish own.old }
-    ensures { own.new ≡ finished own.old }
+fn finish(local: &mut OwnThreads)
+    requires { MayFinish local.old }
+    ensures { local.new ≡ finished local.old }
 {
-    if let Some(t) = own.current {
-        own.ended.push(t);
+    if let Some(t) = local.current {
+        local.ended.push(t);
     }
-    own.current = None;
+    local.current = None;
 }
 
 /// Moves the threads of `queue` to the run queue, and after them the thread that runs.
 #[inline(always)]
-fn join_ready(own: &mut OwnThreads, queue: &mut ThreadList)
-    requires { MayJoin queue.old own.old }
-    ensures { own.new ≡ took_pending queue.old own.old }
+fn join_ready(local: &mut OwnThreads, queue: &mut ThreadList)
+    requires { MayJoin queue.old local.old }
+    ensures { local.new ≡ took_pending queue.old local.old }
 {
-    queue.drain_into(&mut own.ready);
-    if let Some(t) = own.current {
-        own.ready.push(t);
+    queue.drain_into(&mut local.ready);
+    if let Some(t) = local.current {
+        local.ready.push(t);
     }
-    own.current = None;
+    local.current = None;
 }
 
 /// Empties the hand: its thread was forwarded to its home CPU.
 #[inline(always)]
-fn pass_on(own: &mut OwnThreads)
-    ensures { own.new ≡ passed_on own.old }
+fn pass_on(local: &mut OwnThreads)
+    ensures { local.new ≡ passed_on local.old }
 {
-    own.hand = None;
+    local.hand = None;
 }
 
 /// Takes note that the thread that runs went to sleep, if `slept` names a wait list, and that
 /// `woke` was woken. A woken thread is ready if `cpu` is its home, and otherwise in the hand.
 #[inline(always)]
 fn settle(
-    own: &mut OwnThreads,
+    local: &mut OwnThreads,
     homes: &[CpuId],
     cpu: CpuId,
     slept: Option<WaitList>,
     woke: Option<Tid>,
 )
-    requires { MaySettle woke own.old }
-    ensures { own.new ≡ own_woken homes.now cpu woke (own_slept slept own.old) }
+    requires { MaySettle woke local.old }
+    ensures { local.new ≡ own_woken homes.now cpu woke (own_slept slept local.old) }
 {
     if slept.is_some() {
-        own.current = None;
+        local.current = None;
     }
     let Some(t) = woke else { return };
     if is_home(homes, cpu, t) {
-        own.ready.push(t);
+        local.ready.push(t);
     } else {
-        own.hand = Some(t);
+        local.hand = Some(t);
     }
 }
 
@@ -104,13 +105,13 @@ fn settle(
 ///
 /// Requires: the thread that runs, if one does, is below `THREADS` and has not ended.
 #[inline(always)]
-pub fn pass_locally(own: &mut OwnThreads, pass: Pass)
-    requires { MayFinish own.old }
-    ensures { own.new ≡ passed_locally pass own.old }
+pub fn pass_locally(local: &mut OwnThreads, pass: Pass)
+    requires { MayFinish local.old }
+    ensures { local.new ≡ passed_locally pass local.old }
 {
     match pass {
-        Pass::Switch => switch(own),
-        Pass::End => finish(own),
+        Pass::Switch => switch(local),
+        Pass::End => finish(local),
         _ => {}
     }
 }
@@ -122,29 +123,31 @@ pub fn pass_locally(own: &mut OwnThreads, pass: Pass)
 /// and occurs once.
 #[inline(always)]
 pub fn take_answer<E: Moves>(
-    own: &mut OwnThreads,
+    local: &mut OwnThreads,
     homes: &[CpuId],
     cpu: CpuId,
-    answer: BareQueueAnswer<E::Brought>,
+    answer: BareQueueAnswer<E::Response>,
     payload: &mut Payload,
-) -> SchedAnswer<E::Brought>
-    requires { MayTake E.moves (queue_told E.told answer payload.old) own.old }
-    ensures own { own.new ≡ own_by E.moves homes.now cpu (queue_told E.told answer payload.old)
-        own.old }
-    ensures answer { sched_told E.told result payload.new
-        ≡ answer_by (queue_told E.told answer payload.old) }
+) -> SchedAnswer<E::Response>
+    requires { MayTake E.moves (abstract_queue_answer E.abstract_answer answer payload.old)
+        local.old }
+    ensures local { local.new
+        ≡ own_by E.moves homes.now cpu (abstract_queue_answer E.abstract_answer answer payload.old)
+        local.old }
+    ensures answer { abstract_sched_answer E.abstract_answer result payload.new
+        ≡ answer_by (abstract_queue_answer E.abstract_answer answer payload.old) }
 {
     match answer {
         BareQueueAnswer::Done => {
-            pass_on(own);
+            pass_on(local);
             SchedAnswer::Done
         }
         BareQueueAnswer::Taken => {
-            join_ready(own, &mut payload.taken);
+            join_ready(local, &mut payload.taken);
             SchedAnswer::Done
         }
         BareQueueAnswer::Answer(out) => {
-            settle(own, homes, cpu, E::slept(&out), E::woke(&out));
+            settle(local, homes, cpu, E::slept(&out), E::woke(&out));
             SchedAnswer::Answer(out)
         }
     }

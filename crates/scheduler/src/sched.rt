@@ -20,7 +20,7 @@ pub struct Sched<Q> {
     lower: Q,
     cpu: CpuId,
     homes: ArrayVec<CpuId, THREADS>,
-    own: OwnThreads,
+    local: OwnThreads,
 }
 
 impl<E: Moves, Q: Layer<QueueLaw<E>>> Layer<SchedLaw<E>> for Sched<Q> {
@@ -31,13 +31,13 @@ impl<E: Moves, Q: Layer<QueueLaw<E>>> Layer<SchedLaw<E>> for Sched<Q> {
 
     ghost opening = { λ m. Q.opening m };
 
-    ghost seen = { λ m. Q.seen m };
+    ghost history = { λ m. Q.history m };
 
     ghost ActsFor = { λ m c. Q.ActsFor m c };
 
     ghost room = { λ m. Q.room m };
 
-    ghost site = { λ m. Q.site m };
+    ghost machine_id = { λ m. Q.machine_id m };
 
     ghost IsOutside = { λ m c. Q.IsOutside m c };
 
@@ -45,14 +45,14 @@ impl<E: Moves, Q: Layer<QueueLaw<E>>> Layer<SchedLaw<E>> for Sched<Q> {
 
     ghost cpu_of = { λ p. p.cpu };
 
-    ghost own = { λ p. p.own };
+    ghost local = { λ p. p.local };
 
-    ghost under_way = { λ p. sched_under (Q.under_way p.lower) p.own.current };
+    ghost under_way = { λ p. sched_under (Q.under_way p.lower) p.local.current };
 
     ghost is_inside = { λ p. Q.is_inside p.lower };
 
-    ghost Fits = { λ p m. Q.Fits p.lower m × SchedPartFits E.rules E.moves (Q.opening m) p.cpu (Q.cpu_of p.lower) p.homes.items (Q.under_way p.lower)
-        (Q.seen m) p.own };
+    ghost Coupled = { λ p m. Q.Coupled p.lower m × SchedPartFits E.protocol E.moves (Q.opening m) p.cpu (Q.cpu_of p.lower) p.homes.items (Q.under_way p.lower)
+        (Q.history m) p.local };
 
     ghost IsStepwise = { Q.IsStepwise };
 
@@ -65,7 +65,7 @@ impl<E: Moves, Q: Layer<QueueLaw<E>>> Layer<SchedLaw<E>> for Sched<Q> {
             lower: Q::part(cpu, homes, buffers),
             cpu,
             homes: kept_homes(homes),
-            own: threads_at_boot(homes, cpu),
+            local: threads_at_boot(homes, cpu),
         }
     }
 
@@ -75,8 +75,8 @@ impl<E: Moves, Q: Layer<QueueLaw<E>>> Layer<SchedLaw<E>> for Sched<Q> {
     }
 
     #[inline(always)]
-    fn own_here(&self) -> &OwnThreads {
-        &self.own
+    fn local_here(&self) -> &OwnThreads {
+        &self.local
     }
 
     #[inline(always)]
@@ -93,26 +93,26 @@ impl<E: Moves, Q: Layer<QueueLaw<E>>> Layer<SchedLaw<E>> for Sched<Q> {
     fn poll(
         &mut self,
         m: &mut Q::Machine,
-        call: SchedCall<E::Handed>,
+        call: SchedCall<E::Request>,
         payload: &mut Payload,
-    ) -> Option<SchedAnswer<E::Brought>> {
+    ) -> Option<SchedAnswer<E::Response>> {
         let homes = self.homes.as_slice();
         match call_beneath::<E>(homes, self.cpu, call) {
             Err(pass) => {
-                pass_locally(&mut self.own, pass);
+                pass_locally(&mut self.local, pass);
                 Some(SchedAnswer::Done)
             }
             Ok(step) => match self.lower.poll(m, step, payload) {
                 None => None,
                 Some(answer) => {
-                    let own = &mut self.own;
-                    Some(take_answer::<E>(own, homes, self.cpu, answer, payload))
+                    let local = &mut self.local;
+                    Some(take_answer::<E>(local, homes, self.cpu, answer, payload))
                 }
             },
         }
     }
 
-    ghost own_cpu = { λ p m fits. subst (λ c. Q.ActsFor m c) fits.1.cpu (Q.own_cpu p.lower m fits.0) };
+    ghost own_cpu = { λ p m coupled. subst (λ c. Q.ActsFor m c) coupled.1.cpu (Q.own_cpu p.lower m coupled.0) };
 
     ghost moves_legal = { λ m c acts. tt };
 
@@ -128,13 +128,13 @@ impl<E: Moves, Q: Layer<QueueLaw<E>>> Layer<SchedLaw<E>> for Sched<Q> {
 
     ghost proper = { λ step m c acts. Q.proper step m c acts };
 
-    ghost busy = { λ p m fits step. busy_under (Q.acts m) (Q.is_inside p.lower) p.cpu (Q.cpu_of p.lower) fits.1.cpu (Q.busy p.lower m fits.0 step) };
+    ghost busy = { λ p m coupled step. busy_under (Q.acts m) (Q.is_inside p.lower) p.cpu (Q.cpu_of p.lower) coupled.1.cpu (Q.busy p.lower m coupled.0 step) };
 
-    ghost stands = { λ p m fits. fits.1.stands };
+    ghost stands = { λ p m coupled. coupled.1.stands };
 
-    ghost inside = { λ p. Q.inside p.lower ∙ sym (under_is_some (Q.under_way p.lower) p.own.current) };
+    ghost inside = { λ p. Q.inside p.lower ∙ sym (under_is_some (Q.under_way p.lower) p.local.current) };
 
-    ghost idle = { λ p m fits none. Q.idle p.lower m fits.0 (none_under (Q.under_way p.lower) p.own.current none) };
+    ghost idle = { λ p m coupled none. Q.idle p.lower m coupled.0 (none_under (Q.under_way p.lower) p.local.current none) };
 }
 
 impl<E: Moves, Q: OwnedLayer<QueueLaw<E>>> OwnedLayer<SchedLaw<E>> for Sched<Q> {
@@ -170,17 +170,17 @@ impl<E: Moves, Q: OwnedLayer<QueueLaw<E>>> OwnedLayer<SchedLaw<E>> for Sched<Q> 
         self.lower.pends_here(d, t)
     }
 
-    ghost shown = { λ m c b acts there. shown_under (λ (p : Self). p.lower) (λ p. Q.Fits p m) (λ (p : Self). Self.Fits p m) (λ p. Q.cpu_of p)
+    ghost shown = { λ m c b acts there. shown_under (λ (p : Self). p.lower) (λ p. Q.Coupled p m) (λ (p : Self). Self.Coupled p m) (λ p. Q.cpu_of p)
         (λ (p : Self). p.cpu)
         (Q.MayHold m) (Q.MayHold m)
-        (λ p. Q.block_with p b) (Q.block_at m b) (block_after E.rules.edited (inner (Q.opening m)) (Buffer b) (buffer_sections (Q.seen m)))
-        (λ p fits. fits.0) (λ p fits. fits.1.cpu) (λ d inside. inside) (Q.shown m c b acts there) };
+        (λ p. Q.block_with p b) (Q.block_at m b) (block_after E.protocol.edited (inner (Q.opening m)) (Buffer b) (buffer_sections (Q.history m)))
+        (λ p coupled. coupled.0) (λ p coupled. coupled.1.cpu) (λ d inside. inside) (Q.shown m c b acts there) };
 
-    ghost queues = { λ m c d acts there. shown_under (λ (p : Self). p.lower) (λ p. Q.Fits p m) (λ (p : Self). Self.Fits p m) (λ p. Q.cpu_of p)
+    ghost queues = { λ m c d acts there. shown_under (λ (p : Self). p.lower) (λ p. Q.Coupled p m) (λ (p : Self). Self.Coupled p m) (λ p. Q.cpu_of p)
         (λ (p : Self). p.cpu)
         (Q.MayHold m) (Q.MayHold m)
-        (λ p. Q.queue_with p d) (Q.queue_at m d) (Some (pending_by (moves_in (kernel E.rules E.moves (Q.opening m)) (Q.seen m)) d))
-        (λ p fits. fits.0) (λ p fits. fits.1.cpu) (λ d inside. inside) (Q.queues m c d acts there) };
+        (λ p. Q.queue_with p d) (Q.queue_at m d) (Some (pending_by (moves_in (kernel E.protocol E.moves (Q.opening m)) (Q.history m)) d))
+        (λ p coupled. coupled.0) (λ p coupled. coupled.1.cpu) (λ d inside. inside) (Q.queues m c d acts there) };
 
     ghost holding = { Q.holding };
 }

@@ -10,22 +10,22 @@ pub call_proper : {E : Type 0} (cpu : CpuId) (call : QueueCall E) (ends : Bool) 
     → under ≡ (if ends then None else Some (section cpu (lock_of call) (queue_edit_of call))) → IsProperCall under
 call_proper cpu call ends under is = grind (arith, proper_of)
 
-pub frame_raised : {P Q M B E : Type 0} {below : Q → P} {Fits : P → M → Type 0} {cpu_of : P → CpuId} (opening : M → LockId → Option (QueueBlock B))
-    (under_way : P → Option (Section (QueueEdit E))) {site : M → List ℕ} {room : M → ℕ} {ActsFor MayHold : M → CpuId → Type 0} {old new : Q} {m n : M}
-    → StartsWell (opening m) → Framed Fits cpu_of opening site room ActsFor MayHold (below old) (below new) m n → IsProperCall (under_way (below new))
-    → Framed (λ p k. Fits (below p) k × StartsWell (opening k) × IsProperCall (under_way (below p))) (λ p. cpu_of (below p)) opening site room
+pub frame_raised : {P Q M B E : Type 0} {below : Q → P} {Coupled : P → M → Type 0} {cpu_of : P → CpuId} (opening : M → LockId → Option (QueueBlock B))
+    (under_way : P → Option (Section (QueueEdit E))) {machine_id : M → List ℕ} {room : M → ℕ} {ActsFor MayHold : M → CpuId → Type 0} {old new : Q} {m n : M}
+    → StartsWell (opening m) → Framed Coupled cpu_of opening machine_id room ActsFor MayHold (below old) (below new) m n → IsProperCall (under_way (below new))
+    → Framed (λ p k. Coupled (below p) k × StartsWell (opening k) × IsProperCall (under_way (below p))) (λ p. cpu_of (below p)) opening machine_id room
     (λ k c. ActsFor k c × StartsWell (opening k)) MayHold old new m n
 frame_raised opening under_way starts framed proper =
     let starts' = subst StartsWell (sym framed.stays.opening) starts in
     record {
-      fits = (framed.fits, starts', proper);
+      coupled = (framed.coupled, starts', proper);
       cpu = framed.cpu;
       stays = record {
         opening = framed.stays.opening;
-        site = framed.stays.site;
+        machine_id = framed.stays.machine_id;
         room = framed.stays.room;
         acts = λ c acts. (framed.stays.acts c acts.0, starts');
       };
-      others = λ p other fits. (framed.others _ other fits.0, starts', fits.2);
+      others = λ p other coupled. (framed.others _ other coupled.0, starts', coupled.2);
       holders = λ c other acts held. framed.holders c other acts.0 held;
     }

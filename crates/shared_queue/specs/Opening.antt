@@ -18,7 +18,8 @@ pub record AreQueues (cpus : ℕ) (homes : List CpuId) (buffers : ℕ) : Type 0 
 
 -- the block is an empty queue that records these homes
 abbrev pub IsEmptyQueue : {B : Type 0} → List CpuId → QueueBlock B → Type 0
-IsEmptyQueue homes (Queue queue told) = (queue ≡ []) × (told.value.items ≡ homes)
+IsEmptyQueue homes (Queue queue abstract_answer) =
+    (queue ≡ []) × (abstract_answer.value.items ≡ homes)
 IsEmptyQueue homes (Above block) = ⊥
 
 -- these are the locks of the pending queues from CPU n on, each with an empty queue that records

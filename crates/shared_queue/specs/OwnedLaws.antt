@@ -21,26 +21,26 @@ queue_in (Above block) = None
 
 -- lawful sections over the blocks of a boot, and the parts that observe blocks. They say which
 -- parts fit, the CPU of each, and when a CPU is in a section
-pub record Observers (P : Type 0) {E B O : Type 0} (rules : Rules E B O) (mv : MoveRules E O)
+pub record Observers (P : Type 0) {E B O : Type 0} (protocol : Rules E B O) (mv : MoveRules E O)
     (opening : LockId → Option (QueueBlock B)) : Type 1 where
   pub past : List (Section (QueueEdit E))
   pub starts : StartsWell opening
-  pub lawful : IsLawful (SectionAllowed rules mv opening) past
-  pub Fits : P → Type 0
+  pub lawful : IsLawful (SectionAllowed protocol mv opening) past
+  pub Coupled : P → Type 0
   pub cpu_of : P → CpuId
   pub IsInside : CpuId → Type 0
 
-abbrev pub observers : {P E B O : Type 0} (rules : Rules E B O) (mv : MoveRules E O)
+abbrev pub observers : {P E B O : Type 0} (protocol : Rules E B O) (mv : MoveRules E O)
     (opening : LockId → Option (QueueBlock B))
     (past : List (Section (QueueEdit E))) → StartsWell opening
-    → IsLawful (SectionAllowed rules mv opening) past → (P → Type 0) → (P → CpuId)
-    → (CpuId → Type 0) → Observers P rules mv opening
-observers rules mv opening past starts lawful Fits cpu_of IsInside =
+    → IsLawful (SectionAllowed protocol mv opening) past → (P → Type 0) → (P → CpuId)
+    → (CpuId → Type 0) → Observers P protocol mv opening
+observers protocol mv opening past starts lawful Coupled cpu_of IsInside =
     record {
       past = past;
       starts = starts;
       lawful = lawful;
-      Fits = Fits;
+      Coupled = Coupled;
       cpu_of = cpu_of;
       IsInside = IsInside;
     }

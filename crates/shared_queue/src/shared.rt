@@ -42,13 +42,13 @@ impl<E: Moves, L: Layer<LockLaw<QueueEdit<E>>>> Layer<QueueLaw<E>> for SharedQue
 
     ghost opening = { λ m. L.opening m };
 
-    ghost seen = { λ m. map event_of (L.seen m) };
+    ghost history = { λ m. map event_of (L.history m) };
 
     ghost ActsFor = { λ m c. L.ActsFor m c × StartsWell (L.opening m) };
 
     ghost room = { λ m. L.room m };
 
-    ghost site = { λ m. L.site m };
+    ghost machine_id = { λ m. L.machine_id m };
 
     ghost IsOutside = { λ m c. L.IsOutside m c };
 
@@ -56,13 +56,13 @@ impl<E: Moves, L: Layer<LockLaw<QueueEdit<E>>>> Layer<QueueLaw<E>> for SharedQue
 
     ghost cpu_of = { λ p. L.cpu_of p.lower };
 
-    ghost own = { λ p. tt };
+    ghost local = { λ p. tt };
 
     ghost under_way = { λ p. option_map event_of (L.under_way p.lower) };
 
     ghost is_inside = { λ p. L.is_inside p.lower };
 
-    ghost Fits = { λ p m. L.Fits p.lower m × StartsWell (L.opening m) × IsProperCall (L.under_way p.lower) };
+    ghost Coupled = { λ p m. L.Coupled p.lower m × StartsWell (L.opening m) × IsProperCall (L.under_way p.lower) };
 
     ghost IsStepwise = { L.IsStepwise };
 
@@ -82,7 +82,7 @@ impl<E: Moves, L: Layer<LockLaw<QueueEdit<E>>>> Layer<QueueLaw<E>> for SharedQue
     }
 
     #[inline(always)]
-    fn own_here(&self) -> &() {
+    fn local_here(&self) -> &() {
         &()
     }
 
@@ -100,35 +100,35 @@ impl<E: Moves, L: Layer<LockLaw<QueueEdit<E>>>> Layer<QueueLaw<E>> for SharedQue
     fn poll(
         &mut self,
         m: &mut L::Machine,
-        call: QueueCall<E::Handed>,
+        call: QueueCall<E::Request>,
         payload: &mut Payload,
-    ) -> Option<BareQueueAnswer<E::Brought>> {
+    ) -> Option<BareQueueAnswer<E::Response>> {
         self.lower.poll(m, section_of(call), payload)
     }
 
-    ghost own_cpu = { λ p m fits. (L.own_cpu p.lower m fits.0, fits.1) };
+    ghost own_cpu = { λ p m coupled. (L.own_cpu p.lower m coupled.0, coupled.1) };
 
     ghost moves_legal = { λ m c acts. tt };
 
     ghost opens = { λ m c acts. acts.1 };
 
-    ghost lawful = { λ m c acts. lawful_events E.rules E.moves (L.opening m) (L.seen m) (L.lawful m c acts.0) };
+    ghost lawful = { λ m c acts. lawful_events E.protocol E.moves (L.opening m) (L.history m) (L.lawful m c acts.0) };
 
-    ghost known = { λ m c acts. known_events (L.seen m) (L.known m c acts.0) };
+    ghost known = { λ m c acts. known_events (L.history m) (L.known m c acts.0) };
 
-    ghost stands = { λ p m fits. tt };
+    ghost stands = { λ p m coupled. tt };
 
     ghost inside = { λ p. L.inside p.lower ∙ sym (same_busy event_of (L.under_way p.lower)) };
 
-    ghost idle = { λ p m fits none. L.idle p.lower m fits.0 (no_section_beneath event_of (L.under_way p.lower) none) };
+    ghost idle = { λ p m coupled none. L.idle p.lower m coupled.0 (no_section_beneath event_of (L.under_way p.lower) none) };
 
     ghost legal = { λ m c acts. L.legal m c acts.0 };
 
     ghost seen_is = { λ step m. ap (map event_of) (L.seen_is step m) };
 
-    ghost proper = { λ step m c acts. subst AreProper (L.seen_is step m) (lawful_proper E.rules E.moves (L.opening m) (L.seen m) (L.lawful m c acts.0)) };
+    ghost proper = { λ step m c acts. subst AreProper (L.seen_is step m) (lawful_proper E.protocol E.moves (L.opening m) (L.history m) (L.lawful m c acts.0)) };
 
-    ghost busy = { λ p m fits step. L.busy p.lower m fits.0 step };
+    ghost busy = { λ p m coupled step. L.busy p.lower m coupled.0 step };
 }
 
 impl<E: Moves, L: OwnedLocks<QueueEdit<E>>> OwnedLayer<QueueLaw<E>> for SharedQueues<L> {
@@ -172,26 +172,26 @@ impl<E: Moves, L: OwnedLocks<QueueEdit<E>>> OwnedLayer<QueueLaw<E>> for SharedQu
         }
     }
 
-    ghost shown = { λ m c b acts there. buffer_shown E.rules E.moves (L.opening m)
-        (observers E.rules E.moves (L.opening m) (L.seen m) acts.1 (L.lawful m c acts.0)
-        (λ (p : Self). L.Fits p.lower m × StartsWell (L.opening m) × IsProperCall (L.under_way p.lower)) (λ p. L.cpu_of p.lower)
+    ghost shown = { λ m c b acts there. buffer_shown E.protocol E.moves (L.opening m)
+        (observers E.protocol E.moves (L.opening m) (L.history m) acts.1 (L.lawful m c acts.0)
+        (λ (p : Self). L.Coupled p.lower m × StartsWell (L.opening m) × IsProperCall (L.under_way p.lower)) (λ p. L.cpu_of p.lower)
         (L.MayHold m)) b (λ p. L.block_with p.lower (Buffer b)) (L.block_at m (Buffer b))
-        (shown_under (λ (p : Self). p.lower) (λ p. L.Fits p m) (λ p. L.Fits p.lower m × StartsWell (L.opening m) × IsProperCall (L.under_way p.lower))
+        (shown_under (λ (p : Self). p.lower) (λ p. L.Coupled p m) (λ p. L.Coupled p.lower m × StartsWell (L.opening m) × IsProperCall (L.under_way p.lower))
         (λ p. L.cpu_of p) (λ p. L.cpu_of p.lower) (L.MayHold m)
         (L.MayHold m)
-        (λ p. L.block_with p (Buffer b)) (L.block_at m (Buffer b)) (block_after (queue_edited E.rules.edited) (L.opening m) (Buffer b) (L.seen m))
-        (λ p fits. fits.0) (λ p fits. refl) (λ d inside. inside) (L.shown m c (Buffer b) acts.0 there)) };
+        (λ p. L.block_with p (Buffer b)) (L.block_at m (Buffer b)) (block_after (queue_edited E.protocol.edited) (L.opening m) (Buffer b) (L.history m))
+        (λ p coupled. coupled.0) (λ p coupled. refl) (λ d inside. inside) (L.shown m c (Buffer b) acts.0 there)) };
 
-    ghost queues = { λ m c d acts there. queue_shown E.rules E.moves (L.opening m)
-        (observers E.rules E.moves (L.opening m) (L.seen m) acts.1 (L.lawful m c acts.0)
-        (λ (p : Self). L.Fits p.lower m × StartsWell (L.opening m) × IsProperCall (L.under_way p.lower)) (λ p. L.cpu_of p.lower)
+    ghost queues = { λ m c d acts there. queue_shown E.protocol E.moves (L.opening m)
+        (observers E.protocol E.moves (L.opening m) (L.history m) acts.1 (L.lawful m c acts.0)
+        (λ (p : Self). L.Coupled p.lower m × StartsWell (L.opening m) × IsProperCall (L.under_way p.lower)) (λ p. L.cpu_of p.lower)
         (L.MayHold m)) E.wakes_sleepers d there (λ p. L.block_with p.lower (Pending d))
         (L.block_at m (Pending d))
-        (shown_under (λ (p : Self). p.lower) (λ p. L.Fits p m) (λ p. L.Fits p.lower m × StartsWell (L.opening m) × IsProperCall (L.under_way p.lower))
+        (shown_under (λ (p : Self). p.lower) (λ p. L.Coupled p m) (λ p. L.Coupled p.lower m × StartsWell (L.opening m) × IsProperCall (L.under_way p.lower))
         (λ p. L.cpu_of p) (λ p. L.cpu_of p.lower) (L.MayHold m)
         (L.MayHold m)
-        (λ p. L.block_with p (Pending d)) (L.block_at m (Pending d)) (block_after (queue_edited E.rules.edited) (L.opening m) (Pending d) (L.seen m))
-        (λ p fits. fits.0) (λ p fits. refl) (λ d inside. inside) (L.shown m c (Pending d) acts.0 there)) };
+        (λ p. L.block_with p (Pending d)) (L.block_at m (Pending d)) (block_after (queue_edited E.protocol.edited) (L.opening m) (Pending d) (L.history m))
+        (λ p coupled. coupled.0) (λ p coupled. refl) (λ d inside. inside) (L.shown m c (Pending d) acts.0 there)) };
 
     ghost holding = { L.holding };
 }

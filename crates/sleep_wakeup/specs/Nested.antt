@@ -2,10 +2,10 @@
 use Rattle.std.specs.Prelude.{List, [], Option, map, option_map}
 use Rattle.event_log.specs.{declared.ids.LockId.LockId, Sections.{Section, renamed_section}}
 use Rattle.layer_traits.specs.declared.moves.WaitList.TheVariants.{Sleepers, Receivers, Senders}
-use Rattle.layer_traits.specs.declared.payloads.{Parcel.Parcel, Payload.Payload}
+use Rattle.layer_traits.specs.declared.payloads.{MessageSlot.MessageSlot, Payload.Payload}
 use Rattle.layer_traits.specs.{declared.sleeps.Outcome.Outcome, Threads.MoveRules.MoveRules}
-use Rattle.layer_traits.specs.{Blocks.Payloads.outcome_told, Protocols.Protocol.Rules}
-use Rattle.layer_traits.specs.Layers.Sleeping.{IsAwake, NobodySleeps, SleepRules, SleepState}
+use Rattle.layer_traits.specs.{Blocks.Payloads.abstract_outcome, Protocols.Protocol.Rules}
+use Rattle.layer_traits.specs.Layers.Sleeping.{IsAwake, NoSleepers, SleepRules, SleepState}
 use Rattle.layer_traits.specs.Layers.Sleeping.{wait_list_after, sleep_answer}
 use Rattle.sleep_wakeup.specs.declared.edits.{SleepBlock.SleepBlock, SleepEdit.SleepEdit}
 use Rattle.thread_blocks.specs.Queues.{first}
@@ -16,12 +16,16 @@ slept_edit d = d.edit
 
 -- the edit that a passed-down edit means: the edit of the layer above, with the parcel of the
 -- payload
-abbrev pub nested_meant : {H E : Type 0} → (H → Parcel → E) → SleepEdit H → Payload → SleepEdit E
-nested_meant meant section payload = record { edit = meant section.edit payload.parcel }
+abbrev pub abstract_nested_edit : {H E : Type 0} → (H → MessageSlot → E) → SleepEdit H → Payload
+    → SleepEdit E
+abstract_nested_edit abstract_call section payload =
+    record { edit = abstract_call section.edit payload.message_slot }
 
 -- the outcome that is reported, with that parcel
-abbrev pub nested_told : {B O : Type 0} → (B → Parcel → O) → Outcome B → Payload → Outcome O
-nested_told told outcome payload = outcome_told told outcome payload.parcel
+abbrev pub abstract_nested_answer : {B O : Type 0} → (B → MessageSlot → O) → Outcome B → Payload
+    → Outcome O
+abstract_nested_answer abstract_answer outcome payload =
+    abstract_outcome abstract_answer outcome payload.message_slot
 
 -- a block with empty waiting lists
 abbrev pub resting : {B : Type 0} → B → SleepBlock B
@@ -44,44 +48,44 @@ states opening lock = option_map state_of (opening lock)
 -- the block that an edit leaves
 abbrev pub nested_edited : {E B O : Type 0} → SleepRules E B O → SleepEdit E → SleepBlock B
     → SleepBlock B
-nested_edited rules d block = record {
-  sleepers = wait_list_after rules Sleepers d.edit (state_of block) block.sleepers;
-  receivers = wait_list_after rules Receivers d.edit (state_of block) block.receivers;
-  senders = wait_list_after rules Senders d.edit (state_of block) block.senders;
-  above = rules.edited d.edit (first block.sleepers) block.above;
+nested_edited protocol d block = record {
+  sleepers = wait_list_after protocol Sleepers d.edit (state_of block) block.sleepers;
+  receivers = wait_list_after protocol Receivers d.edit (state_of block) block.receivers;
+  senders = wait_list_after protocol Senders d.edit (state_of block) block.senders;
+  above = protocol.edited d.edit (first block.sleepers) block.above;
 }
 
 -- the edit's result
 abbrev pub nested_answer : {E B O : Type 0} → SleepRules E B O → SleepEdit E → SleepBlock B
     → Outcome O
-nested_answer rules d block = sleep_answer rules d.edit (state_of block)
+nested_answer protocol d block = sleep_answer protocol d.edit (state_of block)
 
 -- an edit keeps the protocol: no thread was asleep at the opening, the edit's caller is awake, and
 -- the layer above allows it
-pub record NestedAllowed {E B O : Type 0} (rules : SleepRules E B O)
+pub record NestedAllowed {E B O : Type 0} (protocol : SleepRules E B O)
     (opening : LockId → Option (SleepBlock B)) (past : List (Section (SleepEdit E)))
     (s : Section (SleepEdit E)) : Type 0 where
-  pub start : NobodySleeps (states opening)
-  pub awake : IsAwake rules (states opening) (map (renamed_section slept_edit) past)
+  pub start : NoSleepers (states opening)
+  pub awake : IsAwake protocol (states opening) (map (renamed_section slept_edit) past)
       (renamed_section slept_edit s)
-  pub upper : rules.allowed (states opening) (map (renamed_section slept_edit) past)
+  pub upper : protocol.allowed (states opening) (map (renamed_section slept_edit) past)
       (renamed_section slept_edit s)
 
 -- what the edits mean
 abbrev pub nested_rules : {E B O : Type 0} → SleepRules E B O
     → Rules (SleepEdit E) (SleepBlock B) (Outcome O)
-nested_rules rules =
+nested_rules protocol =
     record {
-      edited = nested_edited rules;
-      answer = nested_answer rules;
-      allowed = NestedAllowed rules;
+      edited = nested_edited protocol;
+      answer = nested_answer protocol;
+      allowed = NestedAllowed protocol;
     }
 
 -- how they move threads
 abbrev pub nested_moves : {E B O : Type 0} → SleepRules E B O → MoveRules (SleepEdit E) (Outcome O)
-nested_moves rules =
+nested_moves protocol =
     record {
-      caller = λ d. rules.caller d.edit;
-      slept = λ outcome. rules.joins outcome.out;
+      caller = λ d. protocol.caller d.edit;
+      slept = λ outcome. protocol.joins outcome.out;
       woke = λ outcome. outcome.woke;
     }

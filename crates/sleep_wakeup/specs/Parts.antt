@@ -2,10 +2,11 @@
 use Rattle.std.specs.Prelude.{◌≡◌, Bool, not, ◌&&◌, Option, Some, None, is_some, option_map}
 use Rattle.std.specs.Prelude.{if◌then◌else◌}
 use Rattle.event_log.specs.declared.ids.{BufId.BufId, Tid.Tid}
-use Rattle.layer_traits.specs.declared.{passes.Pass.TheVariants.MakeReady, payloads.Parcel.Parcel}
+use Rattle.layer_traits.specs.declared.passes.Pass.TheVariants.{MakeReady}
+use Rattle.layer_traits.specs.declared.payloads.MessageSlot.{MessageSlot}
 use Rattle.layer_traits.specs.declared.scheds.{SchedCall.SchedCall, SchedAnswer.SchedAnswer}
 use Rattle.layer_traits.specs.declared.scheds.SchedAnswer.TheVariants.{Done, Answer}
-use Rattle.layer_traits.specs.{declared.sleeps.Outcome.Outcome, Blocks.Payloads.outcome_told}
+use Rattle.layer_traits.specs.{declared.sleeps.Outcome.Outcome, Blocks.Payloads.abstract_outcome}
 use Rattle.layer_traits.specs.{Threads.Places.Threads, Views.Renaming.renamed_sched}
 use Rattle.layer_traits.specs.Layers.SleepLaw.{Sleeping}
 use Rattle.sleep_wakeup.specs.declared.edits.SleepEdit.{SleepEdit}
@@ -23,9 +24,14 @@ pub record Deferred (E O : Type 0) : Type 0 where
   pub outcome : Outcome O
 
 -- what a deferred outcome reports, given its parcel
-abbrev pub deferred_told : {E B O : Type 0} → (B → Parcel → O) → DeferredOutcome E B → Deferred E O
-deferred_told told k =
-    record { buffer = k.buffer; edit = k.edit; outcome = outcome_told told k.outcome k.parcel }
+abbrev pub abstract_deferred : {E B O : Type 0} → (B → MessageSlot → O) → DeferredOutcome E B
+    → Deferred E O
+abstract_deferred abstract_answer k =
+    record {
+      buffer = k.buffer;
+      edit = k.edit;
+      outcome = abstract_outcome abstract_answer k.outcome k.message_slot;
+    }
 
 -- the outcome of a deferred section
 abbrev pub outcome_in : {E O : Type 0} → Option (Deferred E O) → Option (Outcome O)
@@ -59,11 +65,12 @@ must_wait outcome hand = not outcome.slept && is_some hand
 
 -- what is deferred after the scheduler's result, with this parcel in the payload
 abbrev pub deferred_of_answer : {E B : Type 0} → Option Tid → BufId → E → SchedAnswer (Outcome B)
-    → Parcel → Option (DeferredOutcome E B)
-deferred_of_answer hand b e Done parcel = None
-deferred_of_answer hand b e (Answer outcome) parcel =
+    → MessageSlot → Option (DeferredOutcome E B)
+deferred_of_answer hand b e Done message_slot = None
+deferred_of_answer hand b e (Answer outcome) message_slot =
     if must_wait outcome hand
-    then Some (record { buffer = b; edit = e; outcome = outcome; parcel = parcel }) else None
+    then Some (record { buffer = b; edit = e; outcome = outcome; message_slot = message_slot })
+    else None
 
 -- what is returned after the scheduler's result
 abbrev pub answer_reported : {E B : Type 0} → Option (DeferredOutcome E B) → Option Tid
@@ -74,10 +81,10 @@ answer_reported deferred hand (Answer outcome) =
 
 -- the parcel in the payload after it: that of the deferred outcome, if it is returned
 abbrev pub parcel_reported : {E B : Type 0} → Option (DeferredOutcome E B) → SchedAnswer (Outcome B)
-    → Parcel → Parcel
-parcel_reported None Done parcel = parcel
-parcel_reported (Some k) Done parcel = k.parcel
-parcel_reported deferred (Answer outcome) parcel = parcel
+    → MessageSlot → MessageSlot
+parcel_reported None Done message_slot = message_slot
+parcel_reported (Some k) Done message_slot = k.message_slot
+parcel_reported deferred (Answer outcome) message_slot = message_slot
 
 -- a call that is passed down is done if the scheduler returns a result
 abbrev pub done_of : {O : Type 0} → Option (SchedAnswer O) → Option (Unit {0})

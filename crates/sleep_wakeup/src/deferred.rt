@@ -7,7 +7,7 @@ ghost use Rattle.sleep_wakeup.specs.Parts.{deferred_of_answer, done_of, parcel_r
 
 use crate::edits::SleepEdit;
 use event_log::{BufId, Tid};
-use layer_traits::{Ghost, Outcome, Parcel, Payload, SchedAnswer, SchedCall, Sleeps};
+use layer_traits::{Ghost, MessageSlot, Outcome, Payload, SchedAnswer, SchedCall, Sleeps};
 
 /// A section that is done and has not returned: which it is, its outcome, and the parcel that the
 /// outcome brings. The section's edit was passed down with its call: only clauses mention it.
@@ -20,15 +20,15 @@ pub struct DeferredOutcome<E, B> {
     /// What it returns once the thread that it woke has left the hand.
     pub outcome: Outcome<B>,
     /// The payload's parcel at that time: other calls use the payload until then.
-    pub parcel: Parcel,
+    pub message_slot: MessageSlot,
 }
 
 /// Returns the edit that is meant, for clauses only. It is made before the poll of the scheduler,
 /// which writes the payload.
-pub(crate) fn kept_edit<E: Sleeps>(handed: &E::Handed, payload: &Payload) -> Ghost<E>
-    ensures { result ≡ E.meant handed.now payload.now.parcel }
+pub(crate) fn kept_edit<E: Sleeps>(handed: &E::Request, payload: &Payload) -> Ghost<E>
+    ensures { result ≡ E.abstract_call handed.now payload.now.message_slot }
 {
-    Ghost::of(&E::whole(handed, &payload.parcel))
+    Ghost::of(&E::whole(handed, &payload.message_slot))
 }
 
 /// Returns the section's call on the scheduler.
@@ -52,9 +52,10 @@ pub(crate) fn complete<E, B: Drop>(
     payload: &mut Payload,
 ) -> Option<Outcome<B>>
     ensures deferred { deferred.new
-        ≡ deferred_of_answer hand buffer edit answer payload.old.parcel }
+        ≡ deferred_of_answer hand buffer edit answer payload.old.message_slot }
     ensures answer { result ≡ answer_reported deferred.old hand answer }
-    ensures parcel { payload.new.parcel ≡ parcel_reported deferred.old answer payload.old.parcel }
+    ensures message_slot { payload.new.message_slot
+        ≡ parcel_reported deferred.old answer payload.old.message_slot }
 {
     match answer {
         SchedAnswer::Done => release(deferred, payload),
@@ -83,9 +84,10 @@ pub(crate) fn complete_home<E, B: Drop>(
     payload: &mut Payload,
 ) -> Option<Outcome<B>>
     ensures deferred { deferred.new
-        ≡ deferred_of_answer hand buffer edit answer payload.old.parcel }
+        ≡ deferred_of_answer hand buffer edit answer payload.old.message_slot }
     ensures answer { result ≡ answer_reported deferred.old hand answer }
-    ensures parcel { payload.new.parcel ≡ parcel_reported deferred.old answer payload.old.parcel }
+    ensures message_slot { payload.new.message_slot
+        ≡ parcel_reported deferred.old answer payload.old.message_slot }
 {
     complete(deferred, hand, buffer, edit, answer, payload)
 }
@@ -99,10 +101,11 @@ fn release<E, B: Drop>(
 ) -> Option<Outcome<B>>
     ensures deferred { deferred.new ≡ None }
     ensures answer { result ≡ option_map (λ k. k.outcome) deferred.old }
-    ensures parcel { payload.new.parcel ≡ parcel_reported deferred.old Done payload.old.parcel }
+    ensures message_slot { payload.new.message_slot
+        ≡ parcel_reported deferred.old Done payload.old.message_slot }
 {
     let k = deferred.take()?;
-    payload.parcel = k.parcel;
+    payload.message_slot = k.message_slot;
     Some(k.outcome)
 }
 
@@ -117,13 +120,18 @@ fn keep<E, B: Drop>(
     payload: &Payload,
 )
     ensures { deferred.new ≡ Some
-        (record { buffer = buffer; edit = edit; outcome = outcome; parcel = payload.now.parcel }) }
+        (record {
+          buffer = buffer;
+          edit = edit;
+          outcome = outcome;
+          message_slot = payload.now.message_slot;
+        }) }
 {
     *deferred = Some(DeferredOutcome {
         buffer,
         edit,
         outcome,
-        parcel: payload.parcel,
+        message_slot: payload.message_slot,
     });
 }
 

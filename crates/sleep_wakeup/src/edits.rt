@@ -107,37 +107,42 @@ fn fall_asleep(
 }
 
 impl<E: Sleeps> SplitEdit for SleepEdit<E> {
-    ghost use Rattle.sleep_wakeup.specs.Nested.{nested_meant, nested_rules, nested_told};
+    ghost use Rattle.sleep_wakeup.specs.Nested.{abstract_nested_edit, nested_rules, abstract_nested_answer};
 
     type Block = SleepBlock<E::Block>;
 
     type Out = Outcome<E::Out>;
 
-    type Handed = SleepEdit<E::Handed>;
+    type Request = SleepEdit<E::Request>;
 
-    type Brought = Outcome<E::Brought>;
+    type Response = Outcome<E::Response>;
 
-    ghost rules = { nested_rules E.rules };
+    ghost protocol = { nested_rules E.protocol };
 
-    ghost meant = { nested_meant E.meant };
+    ghost abstract_call = { abstract_nested_edit E.abstract_call };
 
-    ghost told = { nested_told E.told };
+    ghost abstract_answer = { abstract_nested_answer E.abstract_answer };
 
-    fn whole(handed: &SleepEdit<E::Handed>, payload: &Payload) -> SleepEdit<E> {
+    fn whole(handed: &SleepEdit<E::Request>, payload: &Payload) -> SleepEdit<E> {
         SleepEdit {
-            edit: E::whole(&handed.edit, &payload.parcel),
+            edit: E::whole(&handed.edit, &payload.message_slot),
         }
     }
 
     #[inline(always)]
-    fn apply_handed(
-        handed: &SleepEdit<E::Handed>,
+    fn apply_request(
+        handed: &SleepEdit<E::Request>,
         block: &mut SleepBlock<E::Block>,
         payload: &mut Payload,
-    ) -> Outcome<E::Brought> {
+    ) -> Outcome<E::Response> {
         let caller = E::caller(&handed.edit);
         let first = block.sleepers.front();
-        let out = E::apply_handed(&handed.edit, first, &mut block.above, &mut payload.parcel);
+        let out = E::apply_request(
+            &handed.edit,
+            first,
+            &mut block.above,
+            &mut payload.message_slot,
+        );
         let line = E::joins(&out);
         let leave = E::leaves(&out);
         let woke = let_out(
@@ -164,33 +169,33 @@ impl<E: Sleeps> SplitEdit for SleepEdit<E> {
 impl<E: Sleeps> Moves for SleepEdit<E> {
     ghost use Rattle.sleep_wakeup.specs.{Laws.NestedLaws.nested_wakes, Nested.nested_moves};
 
-    ghost moves = { nested_moves E.rules };
+    ghost moves = { nested_moves E.protocol };
 
     #[inline(always)]
-    fn slept(brought: &Outcome<E::Brought>) -> Option<WaitList> {
-        E::joins(&brought.out)
+    fn slept(response: &Outcome<E::Response>) -> Option<WaitList> {
+        E::joins(&response.out)
     }
 
     #[inline(always)]
-    fn woke(brought: &Outcome<E::Brought>) -> Option<Tid> {
-        brought.woke
+    fn woke(response: &Outcome<E::Response>) -> Option<Tid> {
+        response.woke
     }
 
-    ghost wakes_sleepers = { nested_wakes E.rules };
+    ghost wakes_sleepers = { nested_wakes E.protocol };
 }
 
 impl<E: WholeSleeps> Edit for SleepEdit<E> {
-    fn hand_on(self, payload: &mut Payload) -> SleepEdit<E::Handed> {
+    fn hand_on(self, payload: &mut Payload) -> SleepEdit<E::Request> {
         SleepEdit {
-            edit: self.edit.hand_on(&mut payload.parcel),
+            edit: self.edit.hand_on(&mut payload.message_slot),
         }
     }
 
-    fn bring_back(brought: Outcome<E::Brought>, payload: &mut Payload) -> Outcome<E::Out> {
+    fn bring_back(response: Outcome<E::Response>, payload: &mut Payload) -> Outcome<E::Out> {
         Outcome {
-            out: E::bring_back(brought.out, &payload.parcel),
-            slept: brought.slept,
-            woke: brought.woke,
+            out: E::bring_back(response.out, &payload.message_slot),
+            slept: response.slept,
+            woke: response.woke,
         }
     }
 }

@@ -20,10 +20,10 @@ pub all_missed : {X E : Type 0} (f : X → Action E) (phase_at : List X → Lock
     → f e ≡ Try cpu lock hit → ((log : List X) → phase_at (e ∷ log) ≡ (if hit then Holding lock ticket else Waiting lock ticket))
     → (looks : ℕ) (old new : List X) → new ≡ replicate looks e ++ old → phase_at new ≡ Waiting lock ticket → phase cpu (map f old) ≡ Waits lock
     → Misses cpu looks (map f old) (map f new)
-all_missed f phase_at e cpu lock ticket hit is own zero old new grows waits before =
+all_missed f phase_at e cpu lock ticket hit is local zero old new grows waits before =
     record { lock = lock; waits = λ some. before; grows = ap (map f) grows }
-all_missed f phase_at e cpu lock ticket hit is own (suc looks) old new grows waits before =
-    let missed = leaves_waiting hit lock ticket (sym (own (replicate looks e ++ old)) ∙ (sym (ap phase_at grows) ∙ waits)) in
+all_missed f phase_at e cpu lock ticket hit is local (suc looks) old new grows waits before =
+    let missed = leaves_waiting hit lock ticket (sym (local (replicate looks e ++ old)) ∙ (sym (ap phase_at grows) ∙ waits)) in
     record {
       lock = lock;
       waits = λ some. before;
@@ -31,10 +31,10 @@ all_missed f phase_at e cpu lock ticket hit is own (suc looks) old new grows wai
     }
 
 -- each stage fits after tries that all failed
-pub spun_fits : {E B O : Type 0} (rules : Rules E B O) (opening opening' : LockId → Option B) → opening' ≡ opening → (cpu : CpuId) (looks : ℕ)
-    (old new : List (Action E)) → Misses cpu looks old new → (c : CpuId) (stage : TicketPhase E B) → StageFits rules opening old c stage
-    → StageFits rules opening' new c stage
-spun_fits rules opening opening' same cpu looks old new misses c stage fits =
+pub spun_fits : {E B O : Type 0} (protocol : Rules E B O) (opening opening' : LockId → Option B) → opening' ≡ opening → (cpu : CpuId) (looks : ℕ)
+    (old new : List (Action E)) → Misses cpu looks old new → (c : CpuId) (stage : TicketPhase E B) → StageFits protocol opening old c stage
+    → StageFits protocol opening' new c stage
+spun_fits protocol opening opening' same cpu looks old new misses c stage coupled =
     let left = left_same cpu looks old new misses in
-    rw same (stage_stays rules opening c stage old new (left.phases c) (left.spots c) (λ s its stays. rw left.sections stays)
-    (λ lock holds. ap (block_after rules.edited opening lock) left.sections) fits)
+    rw same (stage_stays protocol opening c stage old new (left.phases c) (left.indices c) (λ s its stays. rw left.sections stays)
+    (λ lock holds. ap (block_after protocol.edited opening lock) left.sections) coupled)

@@ -1,7 +1,7 @@
 -- The stage of a section (its control state), in terms of the actions at the locks.
 use Rattle.std.specs.Prelude.{◌≡◌, ◌%◌, ◌^◌, List, Option, Some, None, IsSome, if◌then◌else◌}
 use Rattle.event_log.specs.{declared.ids.{CpuId.CpuId, LockId.LockId}, Actions.{Action, Rests}}
-use Rattle.event_log.specs.{Actions.{Waits, Holds, phase, spot_of}, History.same_lock}
+use Rattle.event_log.specs.{Actions.{Waits, Holds, phase, ticket_index_of}, History.same_lock}
 use Rattle.event_log.specs.Sections.{Section, block_after, sections_in}
 use Rattle.layer_traits.specs.Protocols.Protocol.{Rules, StaysAllowed, section}
 use Rattle.spinlock.specs.declared.stages.TicketPhase.{TicketPhase, TheVariants.{Out, Waiting}}
@@ -32,12 +32,12 @@ held_block lock (Holding at edit block) = if same_lock lock at then Some block e
 -- ticket index. The lock of a waiting section exists, and the section under way stays allowed
 abbrev pub StageFits : {E B O : Type 0} → Rules E B O → (LockId → Option B) → List (Action E)
     → CpuId → TicketPhase E B → Type 0
-StageFits rules opening acts cpu Out = phase cpu acts ≡ Rests
-StageFits rules opening acts cpu (Waiting lock edit ticket) =
-    ((phase cpu acts ≡ Waits lock) × (ticket ≡ spot_of cpu acts % 2 ^ 64))
-    × StaysAllowed (rules.allowed opening) (sections_in acts) (section cpu lock edit)
+StageFits protocol opening acts cpu Out = phase cpu acts ≡ Rests
+StageFits protocol opening acts cpu (Waiting lock edit ticket) =
+    ((phase cpu acts ≡ Waits lock) × (ticket ≡ ticket_index_of cpu acts % 2 ^ 64))
+    × StaysAllowed (protocol.allowed opening) (sections_in acts) (section cpu lock edit)
     × IsSome (opening lock)
-StageFits rules opening acts cpu (Holding lock edit block) =
+StageFits protocol opening acts cpu (Holding lock edit block) =
     (phase cpu acts ≡ Holds lock)
-    × StaysAllowed (rules.allowed opening) (sections_in acts) (section cpu lock edit)
-    × (block_after rules.edited opening lock (sections_in acts) ≡ Some block)
+    × StaysAllowed (protocol.allowed opening) (sections_in acts) (section cpu lock edit)
+    × (block_after protocol.edited opening lock (sections_in acts) ≡ Some block)

@@ -14,13 +14,13 @@
 //! ```
 #![tactic(auto)]
 
-mod fair_lock;
-mod owned_fair_lock;
+mod fifo_lock;
+mod owned_fifo_lock;
 mod sections;
 mod spin_lock;
 mod stages;
 
-pub use fair_lock::{FairLock, UsesGrants, UsesTickets};
-pub use owned_fair_lock::OwnedFairLock;
+pub use fifo_lock::{FifoLock, UsesGrants, UsesTickets};
+pub use owned_fifo_lock::OwnedFifoLock;
 pub use sections::whole;
 pub use spin_lock::{Grant, SpinLock, Ticket};

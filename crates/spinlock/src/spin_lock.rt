@@ -1,11 +1,11 @@
 //! The lock: one implementation for every machine with FIFO locks.
 
 ghost use Rattle.std.specs.Prelude.{◌≡◌, ◌+◌, ◌%◌, ◌^◌, ◌<◌, ◌≤◌, Bool, Option, Some, IsSome, MatchOption};
-ghost use Rattle.event_log.specs.{declared.ids.CpuId.CpuId, Actions.{Try, Waits, Holds, cpu_of_action, phase, spot_of}, History.Adds, Sections.block_after};
-ghost use Rattle.{event_log.specs.Sections.sections_in, spinlock.specs.Stages.hit_by};
+ghost use Rattle.event_log.specs.{declared.ids.CpuId.CpuId, Actions.{Try, Waits, Holds, cpu_of_action, phase, ticket_index_of}, History.Adds};
+ghost use Rattle.{event_log.specs.Sections.{block_after, sections_in}, spinlock.specs.Stages.hit_by};
 
-use crate::fair_lock::{FairLock, UsesGrants, UsesTickets};
-use crate::owned_fair_lock::OwnedFairLock;
+use crate::fifo_lock::{FifoLock, UsesGrants, UsesTickets};
+use crate::owned_fifo_lock::OwnedFifoLock;
 use crate::stages::TicketPhase;
 use event_log::{CpuId, LockId, NoMemory};
 use layer_traits::{Ghost, Layer, LockCall, LockLaw, OwnedLocks, Payload, SplitEdit};
@@ -16,7 +16,7 @@ use std::mem;
 /// One CPU's part of a FIFO spin lock. A section takes a place in the queue, tries to enter until
 /// that place is served, and releases the lock with its edit done. Each poll does one of these.
 #[derive(Drop)]
-pub struct SpinLock<M: FairLock<LockProtocol>, LockProtocol> {
+pub struct SpinLock<M: FifoLock<LockProtocol>, LockProtocol> {
     cpu: CpuId,
     // The edit is stored for clauses only: the poll that holds the lock is passed it again.
     stage: TicketPhase<Ghost<M::Edit>, <M::Edit as SplitEdit>::Block>,
@@ -37,9 +37,9 @@ pub type Grant<W> = SpinLock<W, UsesGrants>;
 /// `stage` if it enters. It is not inlined, so that a poll of all layers is small enough to be
 /// inlined into its caller.
 ///
-/// Requires: as [`FairLock::enter`].
+/// Requires: as [`FifoLock::enter`].
 #[inline(never)]
-fn enters<M: FairLock<LockProtocol>, LockProtocol>(
+fn enters<M: FifoLock<LockProtocol>, LockProtocol>(
     m: &mut M,
     cpu: CpuId,
     lock: LockId,
@@ -50,17 +50,17 @@ fn enters<M: FairLock<LockProtocol>, LockProtocol>(
     requires lock { IsSome (M.opening m.old lock) }
     requires room { 0 < M.room m.old }
     requires waits { phase cpu (M.acts m.old) ≡ Waits lock }
-    requires ticket { ticket ≡ spot_of cpu (M.acts m.old) % 2 ^ 64 }
+    requires ticket { ticket ≡ ticket_index_of cpu (M.acts m.old) % 2 ^ 64 }
     ensures adds { (hit : Bool)
         × Adds (M.ActsFor m.old) cpu_of_action (Try cpu lock hit) (M.acts m.old) (M.acts m.new) }
     ensures hits { (found : Option M.Edit.Block) × (stage.new ≡ hit_by found stage.old)
         × MatchOption found
         (phase cpu (M.acts m.new) ≡ Waits lock)
         (λ block. (phase cpu (M.acts m.new) ≡ Holds lock)
-        × (block_after M.Edit.rules.edited (M.opening m.new) lock (sections_in (M.acts m.new))
+        × (block_after M.Edit.protocol.edited (M.opening m.new) lock (sections_in (M.acts m.new))
         ≡ Some block)) }
     ensures opening { M.opening m.new ≡ M.opening m.old }
-    ensures site { M.site m.new ≡ M.site m.old }
+    ensures machine_id { M.machine_id m.new ≡ M.machine_id m.old }
     ensures room { M.room m.old ≤ M.room m.new + 1 }
     ensures acts { (c : CpuId) → M.ActsFor m.old c → M.ActsFor m.new c }
 {
@@ -68,7 +68,7 @@ fn enters<M: FairLock<LockProtocol>, LockProtocol>(
     stage.hit(found);
 }
 
-impl<M: FairLock<LockProtocol>, LockProtocol> Layer<LockLaw<M::Edit>>
+impl<M: FifoLock<LockProtocol>, LockProtocol> Layer<LockLaw<M::Edit>>
     for SpinLock<M, LockProtocol> {
     ghost use Rattle.{event_log.specs.{Actions.phase, Sections.sections_in}, layer_traits.specs.Polling.Plans.is_in_section};
     ghost use Rattle.{spinlock.specs.{Stages.{stage_section, StageFits}, Laws.StageLaws.{sections_known, stage_busy}}, std.specs.Prelude.{is_some, refl, true}};
@@ -78,13 +78,13 @@ impl<M: FairLock<LockProtocol>, LockProtocol> Layer<LockLaw<M::Edit>>
 
     ghost opening = { λ m. M.opening m };
 
-    ghost seen = { λ m. sections_in (M.acts m) };
+    ghost history = { λ m. sections_in (M.acts m) };
 
     ghost ActsFor = { λ m c. M.ActsFor m c };
 
     ghost room = { λ m. M.room m };
 
-    ghost site = { λ m. M.site m };
+    ghost machine_id = { λ m. M.machine_id m };
 
     ghost IsOutside = { λ m c. M.IsOutside m c };
 
@@ -92,13 +92,13 @@ impl<M: FairLock<LockProtocol>, LockProtocol> Layer<LockLaw<M::Edit>>
 
     ghost cpu_of = { λ p. p.cpu };
 
-    ghost own = { λ p. tt };
+    ghost local = { λ p. tt };
 
     ghost under_way = { λ p. stage_section p.cpu p.stage };
 
     ghost is_inside = { λ p. is_some (stage_section p.cpu p.stage) };
 
-    ghost Fits = { λ p m. M.ActsFor m p.cpu × StageFits M.Edit.rules (M.opening m) (M.acts m) p.cpu p.stage };
+    ghost Coupled = { λ p m. M.ActsFor m p.cpu × StageFits M.Edit.protocol (M.opening m) (M.acts m) p.cpu p.stage };
 
     ghost IsStepwise = { Unit {0} };
 
@@ -121,7 +121,7 @@ impl<M: FairLock<LockProtocol>, LockProtocol> Layer<LockLaw<M::Edit>>
     }
 
     #[inline(always)]
-    fn own_here(&self) -> &() {
+    fn local_here(&self) -> &() {
         &()
     }
 
@@ -158,9 +158,9 @@ impl<M: FairLock<LockProtocol>, LockProtocol> Layer<LockLaw<M::Edit>>
     fn poll(
         &mut self,
         m: &mut M,
-        call: LockCall<<M::Edit as SplitEdit>::Handed>,
+        call: LockCall<<M::Edit as SplitEdit>::Request>,
         payload: &mut Payload,
-    ) -> Option<<M::Edit as SplitEdit>::Brought> {
+    ) -> Option<<M::Edit as SplitEdit>::Response> {
         match self.stage {
             TicketPhase::Out => {
                 let lock = call.lock;
@@ -184,7 +184,7 @@ impl<M: FairLock<LockProtocol>, LockProtocol> Layer<LockLaw<M::Edit>>
                 };
                 // The edit that is meant, before its result is stored in the payload.
                 let edit = <M::Edit as SplitEdit>::whole(&call.edit, payload);
-                let out = <M::Edit as SplitEdit>::apply_handed(&call.edit, &mut block, payload);
+                let out = <M::Edit as SplitEdit>::apply_request(&call.edit, &mut block, payload);
                 let mark = M::mark(call.edit, edit);
                 m.leave(self.cpu, lock, block, mark);
                 Some(out)
@@ -192,7 +192,7 @@ impl<M: FairLock<LockProtocol>, LockProtocol> Layer<LockLaw<M::Edit>>
         }
     }
 
-    ghost own_cpu = { λ p m fits. fits.0 };
+    ghost own_cpu = { λ p m coupled. coupled.0 };
 
     ghost lawful = { λ m c acts. M.lawful m c acts };
 
@@ -202,11 +202,11 @@ impl<M: FairLock<LockProtocol>, LockProtocol> Layer<LockLaw<M::Edit>>
 
     ghost opens = { λ m c acts. tt };
 
-    ghost stands = { λ p m fits. tt };
+    ghost stands = { λ p m coupled. tt };
 
     ghost inside = { λ p. refl };
 
-    ghost idle = { λ p m fits none. ap is_some none };
+    ghost idle = { λ p m coupled none. ap is_some none };
 
     ghost legal = { λ m c acts. M.legal m c acts };
 
@@ -214,10 +214,10 @@ impl<M: FairLock<LockProtocol>, LockProtocol> Layer<LockLaw<M::Edit>>
 
     ghost proper = { λ step m c acts. tt };
 
-    ghost busy = { λ p m fits step. stage_busy M.Edit.rules (M.opening m) (M.acts m) p.cpu p.stage fits.1 };
+    ghost busy = { λ p m coupled step. stage_busy M.Edit.protocol (M.opening m) (M.acts m) p.cpu p.stage coupled.1 };
 }
 
-impl<M: OwnedFairLock<LockProtocol>, LockProtocol> OwnedLocks<M::Edit>
+impl<M: OwnedFifoLock<LockProtocol>, LockProtocol> OwnedLocks<M::Edit>
     for SpinLock<M, LockProtocol> {
     ghost use Rattle.std.specs.Prelude.{◌<◌, [], IfOk};
     ghost use Rattle.{event_log.specs.declared.ids.TheConstants.CPUS, layer_traits.specs.Protocols.OneLock.{AreDistinct, opened}};
@@ -233,8 +233,8 @@ impl<M: OwnedFairLock<LockProtocol>, LockProtocol> OwnedLocks<M::Edit>
         room: usize,
     ) -> Result<M, NoMemory>
         requires distinct { AreDistinct blocks.items }
-        ensures seen { IfOk result
-            (λ m. ⟦<SpinLock<M, LockProtocol> as Layer<LockLaw<M::Edit>>>⟧.seen m ≡ []) }
+        ensures history { IfOk result
+            (λ m. ⟦<SpinLock<M, LockProtocol> as Layer<LockLaw<M::Edit>>>⟧.history m ≡ []) }
         ensures opening { IfOk result
             (λ m. ⟦<SpinLock<M, LockProtocol> as Layer<LockLaw<M::Edit>>>⟧.opening m
             ≡ opened blocks.items) }
@@ -263,7 +263,8 @@ impl<M: OwnedFairLock<LockProtocol>, LockProtocol> OwnedLocks<M::Edit>
         self.stage.held(lock)
     }
 
-    ghost shown = { λ m c lock acts there. spin_lock_shows M.Edit.rules (M.opening m) (M.acts m) lock (λ d. M.ActsFor m d) (λ (p : Self). p.cpu) (λ p. p.stage)
+    ghost shown = { λ m c lock acts there. spin_lock_shows M.Edit.protocol (M.opening m) (M.acts m) lock (λ d. M.ActsFor m d) (λ (p : Self). p.cpu)
+        (λ p. p.stage)
         (M.block_at m lock) (M.legal m c acts) (M.blocks m c lock acts there) };
 
     ghost holding = { λ step m c held. held };

@@ -10,7 +10,7 @@ use Rattle.table_machine.{specs.SeatViews.Remembers, proofs.{Showing.within_tabl
 use mathlib.Core.Option.{none}
 
 abbrev pub seat_view_of : {E B : Type 0} → CpuId → TableId → Me (Home E B) (View E B) → SeatView E B
-seat_view_of cpu table me = record { cpu = cpu; table = table; start = me.0.start; seen = me.0.seen }
+seat_view_of cpu table me = record { cpu = cpu; table = table; start = me.0.start; history = me.0.history }
 
 abbrev pub table_view_of : {B : Type 0} → TableId → List (LockId × B) → ℕ → TableView B
 table_view_of table start cpus = record { table = table; start = start; cpus = cpus }
@@ -22,13 +22,13 @@ one_table table z start n cpu me d b d_is b_is of = rw (← d_is, ← b_is) at o
 
 module _ {E B O : Type 0} (R : Rules E B O) where
   -- a token that sees the log for exactly one CPU is that of its key
-  pub key_at : (cpu : CpuId) (ticket : ℕ) (start : List (LockId × B)) (w : Me (Home E B) (View E B)) (phase : LockPhase) → w.0 ≡ mine start cpu w.0.seen
-      → lock_phase cpu w.0.seen ≡ phase → Carries start phase w.1 → Remembers ticket phase → IsLawful (MayCome (R.allowed (opened start))) w.0.seen
+  pub key_at : (cpu : CpuId) (ticket : ℕ) (start : List (LockId × B)) (w : Me (Home E B) (View E B)) (phase : LockPhase) → w.0 ≡ mine start cpu w.0.history
+      → lock_phase cpu w.0.history ≡ phase → Carries start phase w.1 → Remembers ticket phase → IsLawful (MayCome (R.allowed (opened start))) w.0.history
       → IsKey R cpu ticket w
   key_at cpu ticket start w phase view stands carries remembers legal =
       let started : w.0.start ≡ start = ap (λ (u : View E B). u.start) view in
       record {
-        view = view ∙ ap (λ (s : List (LockId × B)). mine s cpu w.0.seen) (sym started);
+        view = view ∙ ap (λ (s : List (LockId × B)). mine s cpu w.0.history) (sym started);
         held = rw (started, stands) carries;
         remembers = rw stands remembers;
         legal = rw started legal;
@@ -46,8 +46,8 @@ module _ {E B O : Type 0} (R : Rules E B O) where
     there = rw (← d_is, here.1) at exists
 
     -- the token, at the opening blocks of its table
-    me_is : me ≡ (mine start cpu me.0.seen, me.1)
-    me_is = ap (λ (v : View E B). (v, me.1)) (key.view ∙ ap (λ (s : List (LockId × B)). mine s cpu me.0.seen) here.1)
+    me_is : me ≡ (mine start cpu me.0.history, me.1)
+    me_is = ap (λ (v : View E B). (v, me.1)) (key.view ∙ ap (λ (s : List (LockId × B)). mine s cpu me.0.history) here.1)
 
     -- the word is within the table
     lies : (number : ℕ) → number ≤ CPUS → word ≡ word_at (rank_of b.start lock) number → (word ≡ word_at (rank_of start lock) number) × (word < z.words)
@@ -55,46 +55,47 @@ module _ {E B O : Type 0} (R : Rules E B O) where
         let lands : word ≡ word_at (rank_of start lock) number = rw (← b_is) at is in
         (lands, rw (lands, words_are) (within_table K law R.edited start lock number there within))
 
-    pub draw_asks : lock_phase d.cpu d.seen ≡ Idle → word ≡ word_at (rank_of b.start lock) 0
+    pub draw_asks : lock_phase d.cpu d.history ≡ Idle → word ≡ word_at (rank_of b.start lock) 0
         → (table ≡ z) × (word < z.words) × Allows (TableInv K R n start) z.slots id me word (λ m. (m + 1) % 2 ^ 64) (Drew R (step z.slots word 1 0 none) me)
     draw_asks outside is =
         let lands = lies 0 (omega arith) is in
-        (here.0, lands.1, rw (me_is, lands.0) (draws_allowed K R n start law z.slots id cpu me.0.seen me.1 lock there (rw (← d_is) at outside)))
+        (here.0, lands.1, rw (me_is, lands.0) (draws_allowed K R n start law z.slots id cpu me.0.history me.1 lock there (rw (← d_is) at outside)))
 
-    pub look_asks : (ticket : ℕ) → lock_phase d.cpu d.seen ≡ Waiting lock ticket → word ≡ word_at (rank_of b.start lock) (K.looks_at ticket)
+    pub look_asks : (ticket : ℕ) → lock_phase d.cpu d.history ≡ Waiting lock ticket → word ≡ word_at (rank_of b.start lock) (K.looks_at ticket)
         → (table ≡ z) × (word < z.words) × Allows (TableInv K R n start) z.slots id me word (λ m. m) (LookedAtWord K R me)
     look_asks ticket waits is =
         let lands = lies (K.looks_at ticket) (law.looks_within ticket) is in
-        let waiting : lock_phase cpu me.0.seen ≡ Waiting lock ticket = rw (← d_is) at waits in
+        let waiting : lock_phase cpu me.0.history ≡ Waiting lock ticket = rw (← d_is) at waits in
         let nothing : me.1 ≡ [] = rw waiting at key.held in
-        (here.0, lands.1, rw (me_is, nothing, lands.0) (looks_allowed K R n start law z.slots id cpu me.0.seen lock ticket there waiting))
+        (here.0, lands.1, rw (me_is, nothing, lands.0) (looks_allowed K R n start law z.slots id cpu me.0.history lock ticket there waiting))
 
     -- the request of a write that releases the lock: a store of a number, or an addition of 1
-    pub free_asks : (ticket : ℕ) (block : B) (edit : E) → lock_phase d.cpu d.seen ≡ Holding lock ticket
-        → option_map (R.edited edit) (block_after R.edited (opened d.start) lock (sections d.seen)) ≡ Some block
-        → StaysAllowed (R.allowed (opened d.start)) (sections d.seen) (section d.cpu lock edit) → (now : TableId) (v : Me (Home E B) (View E B))
+    pub free_asks : (ticket : ℕ) (block : B) (edit : E) → lock_phase d.cpu d.history ≡ Holding lock ticket
+        → option_map (R.edited edit) (block_after R.edited (opened d.start) lock (sections d.history)) ≡ Some block
+        → StaysAllowed (R.allowed (opened d.start)) (sections d.history) (section d.cpu lock edit) → (now : TableId) (v : Me (Home E B) (View E B))
         (stored : Option ℕ) → word ≡ word_at (rank_of b.start lock) (K.gives_at kept) → K.stores kept ≡ stored → now ≡ table
         → v ≡ (me.0, (rank_of b.start lock, record { block = Some block; edit = Some edit }) ∷ rest me.1)
         → (now ≡ z) × (word < z.words) × Allows (TableInv K R n start) z.slots id v word (given_on stored) (λ _. Freed R v)
     free_asks ticket block edit inside edited stays now v stored is stores now_is v_is =
         let x : Home E B = record { block = Some block; edit = Some edit } in
         let lands = lies (K.gives_at kept) (law.gives_within kept) is in
-        let holding : lock_phase cpu me.0.seen ≡ Holding lock ticket = rw (← d_is) at inside in
+        let holding : lock_phase cpu me.0.history ≡ Holding lock ticket = rw (← d_is) at inside in
         let carries : (home : Home E B) × (me.1 ≡ (rank_of me.0.start lock, home) ∷ []) = rw holding at key.held in
         let ticket_is : kept ≡ ticket = rw holding at key.remembers in
-        let v_at : v ≡ (mine start cpu me.0.seen, (rank_of start lock, x) ∷ []) = rw (me_is, ap rest carries.1, ← b_is) at v_is in (
+        let v_at : v ≡ (mine start cpu me.0.history, (rank_of start lock, x) ∷ []) = rw (me_is, ap rest carries.1, ← b_is) at v_is in (
           now_is ∙ here.0,
           lands.1,
-          rw (v_at, lands.0) (frees_allowed K R n start law z.slots id cpu me.0.seen lock kept edit block x there (holding ∙ ap (Holding lock) (sym ticket_is))
+          rw (v_at, lands.0)
+              (frees_allowed K R n start law z.slots id cpu me.0.history lock kept edit block x there (holding ∙ ap (Holding lock) (sym ticket_is))
               refl refl (rw (← d_is, here.1) at edited) (rw (← d_is, here.1) at stays) (given_on stored) (λ m. ap (λ o. given_on o m) (sym stores))),
         )
 
 -- an event of the own CPU, for a holder that acts only for that CPU
 pub seat_adds : {E B : Type 0} (k d : SeatView E B) (cpu : CpuId) (e : CpuId → Event (Mark E)) (P : Type 0) (new : List (Event (Mark E))) → k ≡ d → cpu ≡ d.cpu
-    → Adds (IsThisCpu k.cpu) cpu_of_event (e k.cpu) k.seen new → Adds (λ c. (c ≡ d.cpu) × P) cpu_of_event (e cpu) d.seen new
+    → Adds (IsThisCpu k.cpu) cpu_of_event (e k.cpu) k.history new → Adds (λ c. (c ≡ d.cpu) × P) cpu_of_event (e cpu) d.history new
 seat_adds k d cpu e P new k_is same adds =
     let its = rw k_is at adds in record { others = its.others; foreign = λ c acts. its.foreign c acts.0; is = rw same its.is }
 
-pub seat_grows : {E B : Type 0} (k d : SeatView E B) (new : List (Event (Mark E))) → k ≡ d → Grows (IsThisCpu k.cpu) cpu_of_event k.seen new
-    → Grows (IsThisCpu d.cpu) cpu_of_event d.seen new
+pub seat_grows : {E B : Type 0} (k d : SeatView E B) (new : List (Event (Mark E))) → k ≡ d → Grows (IsThisCpu k.cpu) cpu_of_event k.history new
+    → Grows (IsThisCpu d.cpu) cpu_of_event d.history new
 seat_grows k d new k_is grows = rw k_is at grows

@@ -34,21 +34,21 @@ module _ {E B O : Type 0} (R : Rules E B O) where
       let final = rw (start_is, ap (λ (b : TableView B). b.cpus) table_view_is) at final_there in
       let s = final.0 in
       let kept = final.1.0 in
-      let fits = kept.sees.fits id v final.1.1 in
+      let coupled = kept.sees.coupled id v final.1.1 in
       let log = kept.log in
       let owned : (c : CpuId) → c.0 < table_view.cpus → Has c v.cpus = λ c below.
       let there = covers c below in rw there.3 at (g.keys there.0 there.1 there.2).0 in
       let outside : (c : CpuId) → lock_phase c log ≡ Idle = λ c. elim (dec_le table_view.cpus c.0) [
         | yes large ↦ rw append-nil at (lock_phase_others c log [] (kept.rest c large))
-        | no small ↦ (let has = owned c (lt_of_not-le small) in lock_phase_since c log v.seen (fits.cpus c has) ∙ g.quiet c has)
+        | no small ↦ (let has = owned c (lt_of_not-le small) in lock_phase_since c log v.history (coupled.cpus c has) ∙ g.quiet c has)
       ] in
       record {
         log = log;
         legal = kept.legal;
         keys = λ i d at. (
             let known = g.keys i d at in
-            let since = since_trans d.cpu log v.seen d.seen (fits.cpus d.cpu known.0) known.1 in
-            record { ends = record { more = since.more; is = since.is }; whole = own_since d.cpu log d.seen since });
+            let since = since_trans d.cpu log v.history d.history (coupled.cpus d.cpu known.0) known.1 in
+            record { ends = record { more = since.more; is = since.is }; whole = own_since d.cpu log d.history since });
         rest = λ c large. own_none cpu_of_event c log (kept.rest c large);
         blocks = λ i o at. (
             let rank = rank_at table_view.start i o distinct (there_for table_view.start i o at) in
@@ -61,33 +61,34 @@ module _ {E B O : Type 0} (R : Rules E B O) where
 
   -- a key is taken in: one seat view more
   pub absorb_reads : (start : List (LockId × B)) (cpu : CpuId) (ticket : ℕ) (table : TableId) (v o : Me (Home E B) (View E B)) (d : SeatView E B)
-      → seat_view_of cpu table o ≡ d → IsKey R cpu ticket o → lock_phase d.cpu d.seen ≡ Idle
+      → seat_view_of cpu table o ≡ d → IsKey R cpu ticket o → lock_phase d.cpu d.history ≡ Idle
       → {u w : Me (Home E B) (View E B)} {slots found : ℕ} → u ≡ (joined v.0 o.0, v.1) → Met R (step slots 0 0 0 none) u found w
       → {seat_views : List (SeatView E B)} → Gathered start v.0 seat_views → Gathered start w.0 (seat_views ++ d ∷ [])
   absorb_reads start cpu ticket table v o d d_is key over {u} {w} {slots} {found} u_is met_there {seat_views} g =
       let met = subst (λ (m : Me (Home E B) (View E B)). Met R (step slots 0 0 0 none) m found w)
-      (u_is ∙ (ap (λ (l : List CpuId). (record { start = v.0.start; cpus = v.0.cpus; seen = v.0.seen; told = o.0.seen; lent = l }, v.1))
+      (u_is ∙ (ap (λ (l : List CpuId). (record { start = v.0.start; cpus = v.0.cpus; history = v.0.history; told = o.0.history; lent = l }, v.1))
       (ap (λ (x : View E B). x.cpus) key.view)
-      ∙ ap (λ (e : SeatView E B). (record { start = v.0.start; cpus = v.0.cpus; seen = v.0.seen; told = e.seen; lent = e.cpu ∷ [] }, v.1)) d_is)) met_there in
+      ∙ ap (λ (e : SeatView E B). (record { start = v.0.start; cpus = v.0.cpus; history = v.0.history; told = e.history; lent = e.cpu ∷ [] }, v.1)) d_is))
+      met_there in
       let cpus_are : w.0.cpus ≡ d.cpu ∷ v.0.cpus = ap (λ (u : View E B). u.cpus) met.view in
       record {
-        view = met.view ∙ (ap (λ (l : List CpuId). caught_up v.0.start l w.0.seen) (sym cpus_are)
-            ∙ ap (λ (s : List (LockId × B)). caught_up s w.0.cpus w.0.seen) (ap (λ (u : View E B). u.start) g.view));
-        keys = λ i e there. all_end (λ i (e : SeatView E B). Has e.cpu w.0.cpus × IsSince w.0.seen e.seen e.cpu) seat_views d
-            (rw cpus_are (inl refl), met.fits.lent d.cpu (inl refl))
+        view = met.view ∙ (ap (λ (l : List CpuId). caught_up v.0.start l w.0.history) (sym cpus_are)
+            ∙ ap (λ (s : List (LockId × B)). caught_up s w.0.cpus w.0.history) (ap (λ (u : View E B). u.start) g.view));
+        keys = λ i e there. all_end (λ i (e : SeatView E B). Has e.cpu w.0.cpus × IsSince w.0.history e.history e.cpu) seat_views d
+            (rw cpus_are (inl refl), met.coupled.lent d.cpu (inl refl))
             (λ i e old. let known = g.keys i e (element_got seat_views i e old) in
-            (rw cpus_are (inr known.0), since_trans e.cpu w.0.seen v.0.seen e.seen (met.fits.cpus e.cpu known.0) known.1))
+            (rw cpus_are (inr known.0), since_trans e.cpu w.0.history v.0.history e.history (met.coupled.cpus e.cpu known.0) known.1))
             i e (there_for (seat_views ++ d ∷ []) i e there);
         quiet = λ c has. ⊎_elim
-            (λ (same : c ≡ d.cpu). rw same (lock_phase_since d.cpu w.0.seen d.seen (met.fits.lent d.cpu (inl refl)) ∙ over))
-            (λ old. lock_phase_since c w.0.seen v.0.seen (met.fits.cpus c old) ∙ g.quiet c old)
+            (λ (same : c ≡ d.cpu). rw same (lock_phase_since d.cpu w.0.history d.history (met.coupled.lent d.cpu (inl refl)) ∙ over))
+            (λ old. lock_phase_since c w.0.history v.0.history (met.coupled.cpus c old) ∙ g.quiet c old)
             (rw cpus_are at has);
       }
 
   -- a key whose CPU is outside carries no slot
   pub absorb_carries : (cpu : CpuId) (ticket : ℕ) (table : TableId) (o : Me (Home E B) (View E B)) (d : SeatView E B) → seat_view_of cpu table o ≡ d
-      → IsKey R cpu ticket o → lock_phase d.cpu d.seen ≡ Idle → o.1 ≡ []
-  absorb_carries cpu ticket table o d d_is key over = rw (ap (λ (d : SeatView E B). lock_phase d.cpu d.seen) d_is ∙ over) at key.held
+      → IsKey R cpu ticket o → lock_phase d.cpu d.history ≡ Idle → o.1 ≡ []
+  absorb_carries cpu ticket table o d d_is key over = rw (ap (λ (d : SeatView E B). lock_phase d.cpu d.history) d_is ∙ over) at key.held
 
   -- what `close` gives
   pub close_gives : (table_view : TableView B) (seat_views : List (SeatView E B)) (homes : List (Home E B)) (locks : List LockId) (blocks : List (LockId × B))

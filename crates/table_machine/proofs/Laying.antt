@@ -44,8 +44,8 @@ module _ (K : WordKind) {E B O : Type 0} (R : Rules E B O) where
   pub deal_asks : (table z : TableId) (start : List (LockId × B)) (n id : ℕ) (ranks : List ℕ) (locks : List LockId) (me : Me (Home E B) (View E B)) (cpu : ℕ)
       (b : TableView B) → IsLaidOut start z.words z.slots ranks locks → table_view_of z start n ≡ b
       → cpu < b.cpus → table ≡ b.table → me ≡ (caught_up b.start (cpus_from cpu (b.cpus - cpu)) [], [])
-      → (table ≡ z) × (0 < z.words) × Splits (TableInv K R n start) id me.0 (caught_up me.0.start (drop 1 me.0.cpus) me.0.seen)
-      (mine me.0.start (owner me.0.cpus) me.0.seen)
+      → (table ≡ z) × (0 < z.words) × Splits (TableInv K R n start) id me.0 (caught_up me.0.start (drop 1 me.0.cpus) me.0.history)
+      (mine me.0.start (owner me.0.cpus) me.0.history)
   deal_asks table z start n id ranks locks me cpu b laid b_is below table_is me_is =
       let small : cpu < n = rw (← b_is) at below in
       let me_at : me ≡ (caught_up start (cpus_from cpu (suc (n - (cpu + 1)))) [], []) = rw (← b_is, one_less n cpu small) at me_is in
@@ -53,7 +53,7 @@ module _ (K : WordKind) {E B O : Type 0} (R : Rules E B O) where
 
   pub deal_leaves : (me w : Me (Home E B) (View E B)) (cpu : ℕ) (b : TableView B) → cpu < b.cpus
       → me ≡ (caught_up b.start (cpus_from cpu (b.cpus - cpu)) [], [])
-      → w ≡ (caught_up me.0.start (drop 1 me.0.cpus) me.0.seen, me.1) → w ≡ (caught_up b.start (cpus_from (cpu + 1) (b.cpus - (cpu + 1))) [], [])
+      → w ≡ (caught_up me.0.start (drop 1 me.0.cpus) me.0.history, me.1) → w ≡ (caught_up b.start (cpus_from (cpu + 1) (b.cpus - (cpu + 1))) [], [])
   deal_leaves me w cpu b below me_is w_is = rw (me_is, one_less b.cpus cpu below) at w_is
 
 -- the whole row

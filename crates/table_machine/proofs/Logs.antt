@@ -2,7 +2,7 @@
 use Rattle.std.proofs.Common.{◌≡◌, ℕ, Bool, true, false, if◌then◌else◌, List, [], ◌∷◌, ◌++◌, Option, refl, ap, sym, ◌∙◌, append_assoc, append-nil, eq-eqb}
 use Rattle.event_log.specs.{declared.{ids.{CpuId.CpuId, LockId.LockId}, events.Event.{Event, TheVariants.{Draw, Look, Free}}}, History.{same_cpu, same_lock}}
 use Rattle.event_log.specs.{History.{AreOthers, own_events}, WordsLog.{cpu_of_event, lock_phase, IsLegalWords, Holding}, Sections.block_after}
-use Rattle.event_log.proofs.{Same.same_lock_true, Foreign.{others_both, lock_phase_others, own_others}, Tickets.one_inside}
+use Rattle.event_log.proofs.{Same.same_lock_true, Foreign.{others_both, lock_phase_others, own_others}, Tickets.mutual_exclusion}
 use Rattle.{layer_traits.specs.{declared.edits.Mark.Mark, Protocols.WordsProtocol.sections}, table_machine.specs.Views.{EndsWith, IsSince}}
 
 module _ {M : Type 0} where
@@ -14,24 +14,24 @@ module _ {M : Type 0} where
   }
 
   -- environment events appended to what was added since
-  pub since_more : (c : CpuId) (es log seen : List (Event M)) → AreOthers cpu_of_event c es → IsSince log seen c → IsSince (es ++ log) seen c
-  since_more c es log seen h s = since_trans c (es ++ log) log seen (record { more = es; is = refl; others = h }) s
+  pub since_more : (c : CpuId) (es log history : List (Event M)) → AreOthers cpu_of_event c es → IsSince log history c → IsSince (es ++ log) history c
+  since_more c es log history h s = since_trans c (es ++ log) log history (record { more = es; is = refl; others = h }) s
 
   pub since_all : (c : CpuId) (log : List (Event M)) → IsSince log log c
   since_all c log = record { more = []; is = refl; others = tt }
 
-  pub lock_phase_since : (c : CpuId) (log seen : List (Event M)) → IsSince log seen c → lock_phase c log ≡ lock_phase c seen
-  lock_phase_since c log seen s = ap (lock_phase c) s.is ∙ lock_phase_others c s.more seen s.others
+  pub lock_phase_since : (c : CpuId) (log history : List (Event M)) → IsSince log history c → lock_phase c log ≡ lock_phase c history
+  lock_phase_since c log history s = ap (lock_phase c) s.is ∙ lock_phase_others c s.more history s.others
 
-  pub own_since : (c : CpuId) (log seen : List (Event M)) → IsSince log seen c → own_events cpu_of_event c log ≡ own_events cpu_of_event c seen
-  own_since c log seen s = ap (own_events cpu_of_event c) s.is ∙ own_others cpu_of_event c s.more seen s.others
+  pub own_since : (c : CpuId) (log history : List (Event M)) → IsSince log history c → own_events cpu_of_event c log ≡ own_events cpu_of_event c history
+  own_since c log history s = ap (own_events cpu_of_event c) s.is ∙ own_others cpu_of_event c s.more history s.others
 
   -- every log extends the empty one
   pub ends_nil : (log : List (Event M)) → EndsWith log []
   ends_nil log = record { more = log; is = sym (append-nil log) }
 
-  pub ends_more : (es log seen : List (Event M)) → EndsWith log seen → EndsWith (es ++ log) seen
-  ends_more es log seen s = record { more = es ++ s.more; is = ap (λ l. es ++ l) s.is ∙ sym (append_assoc es s.more seen) }
+  pub ends_more : (es log history : List (Event M)) → EndsWith log history → EndsWith (es ++ log) history
+  ends_more es log history s = record { more = es ++ s.more; is = ap (λ l. es ++ l) s.is ∙ sym (append_assoc es s.more history) }
 
   pub ends_all : (log : List (Event M)) → EndsWith log log
   ends_all log = record { more = []; is = refl }
@@ -48,7 +48,7 @@ module _ {E B : Type 0} (edited : E → B → B) (opening : LockId → Option B)
           ≡ block_after edited opening lock (sections log)
       go true same = absurd (
           let here : lock_phase d log ≡ Holding lock s = rw (same_lock_true lock at same) di in
-          let one : same_cpu d c ≡ true = eq-eqb d.0 c.0 (ap (λ x. x.0) (one_inside log legal d c lock s t here ci)) in cc)
+          let one : same_cpu d c ≡ true = eq-eqb d.0 c.0 (ap (λ x. x.0) (mutual_exclusion log legal d c lock s t here ci)) in cc)
       go false same = rw same refl
 
   -- while a CPU is inside, no other CPU edits the block

@@ -13,25 +13,27 @@ has_words start words slots ranks locks laid = let are : words ≡ word_count (l
 
 module _ {E B O : Type 0} (R : Rules E B O) where
   -- what a meeting leaves
-  pub record MeetDone (d : SeatView E B) (cpu : CpuId) (ticket : ℕ) (seen : List (Event (Mark E))) (w : Me (Home E B) (View E B)) : Type 0 where
+  pub record MeetDone (d : SeatView E B) (cpu : CpuId) (ticket : ℕ) (history : List (Event (Mark E))) (w : Me (Home E B) (View E B)) : Type 0 where
     pub start : d.start ≡ w.0.start
-    pub begins : EndsWith w.0.seen seen
-    pub grows : Grows (IsThisCpu d.cpu) cpu_of_event d.seen w.0.seen
+    pub begins : EndsWith w.0.history history
+    pub grows : Grows (IsThisCpu d.cpu) cpu_of_event d.history w.0.history
     pub key : IsKey R cpu ticket w
 
   pub meet_reads : (cpu : CpuId) (ticket : ℕ) (table : TableId) (v u w : Me (Home E B) (View E B)) (o : View E B) (slots found : ℕ) (d : SeatView E B)
       → seat_view_of cpu table v ≡ d → IsKey R cpu ticket v → o.cpus ≡ [] → u ≡ (joined v.0 o, v.1) → Met R (step slots 0 0 0 none) u found w
-      → MeetDone d cpu ticket o.seen w
+      → MeetDone d cpu ticket o.history w
   meet_reads cpu ticket table v u w o slots found d d_is key nobody u_is told =
       let met = rw u_is at told in
       let cpu_is : v.0.cpus ≡ cpu ∷ [] = ap (λ (u : View E B). u.cpus) key.view in
-      let view : w.0 ≡ mine v.0.start cpu w.0.seen = rw (nobody, cpu_is) at met.view in
-      let since : IsSince w.0.seen v.0.seen cpu = met.fits.cpus cpu (rw cpu_is (inl refl)) in
+      let view : w.0 ≡ mine v.0.start cpu w.0.history = rw (nobody, cpu_is) at met.view in
+      let since : IsSince w.0.history v.0.history cpu = met.coupled.cpus cpu (rw cpu_is (inl refl)) in
       record {
         start = rw (← d_is) (sym (ap (λ (u : View E B). u.start) view));
-        begins = met.fits.told;
+        begins = met.coupled.told;
         grows = rw (← d_is) (record { others = since.more; foreign = λ c same. rw same since.others; is = since.is });
-        key = key_at R cpu ticket v.0.start w (lock_phase cpu v.0.seen) view (lock_phase_since cpu w.0.seen v.0.seen since) (rw met.held key.held) key.remembers
+        key =
+            key_at R cpu ticket v.0.start w (lock_phase cpu v.0.history) view (lock_phase_since cpu w.0.history v.0.history since) (rw met.held key.held)
+            key.remembers
             met.legal;
       }
 

@@ -81,7 +81,7 @@ module _ (K : WordKind) (law : IsWordKind K) {E B : Type 0} (edited : E → B �
             words_are = law.same (draws lock (e ∷ log)) (frees lock (e ∷ log)) (words_at_rank words k)
                 (words_at_rank (set words (word_at (rank_of start (event_lock e)) word) x) k) (λ i small. get_or-set_other words
                 (word_at (rank_of start (event_lock e)) word) (word_at k i) x 0 (locks_apart k (rank_of start (event_lock e)) i word away small within))
-                (counts_elsewhere (λ taken given. K.Fit taken given (words_at_rank words k)) e log lock other old.words_are);
+                (counts_elsewhere (λ taken given. K.Coupling taken given (words_at_rank words k)) e log lock other old.words_are);
             is = home_elsewhere edited (opened start) lock e log may other (home_block old.home) old.is;
           }
 

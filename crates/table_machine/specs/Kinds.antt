@@ -18,7 +18,7 @@ pub record WordKind : Type 1 where
   -- what it stores there; None if it adds 1
   pub stores : ℕ → Option ℕ
   -- after so many spots taken and so many releases, the words are these
-  pub Fit : ℕ → ℕ → (ℕ → ℕ) → Type 0
+  pub Coupling : ℕ → ℕ → (ℕ → ℕ) → Type 0
 
 -- the words at the start
 abbrev pub first_words : ℕ → ℕ → ℕ
@@ -36,25 +36,28 @@ pub record IsWordKind (kind : WordKind) : Type 0 where
   -- a holder writes one of them
   pub gives_within : (ticket : ℕ) → kind.gives_at ticket ≤ CPUS
   -- the words at the start agree with no spot taken and no release
-  pub begins : (w : ℕ → ℕ) → ((i : ℕ) → i ≤ CPUS → w i ≡ first_words kind.opens i) → kind.Fit 0 0 w
+  pub begins : (w : ℕ → ℕ) → ((i : ℕ) → i ≤ CPUS → w i ≡ first_words kind.opens i)
+      → kind.Coupling 0 0 w
   -- words that are equal agree with the same counts
   pub same : (taken given : ℕ) (w v : ℕ → ℕ) → ((i : ℕ) → i ≤ CPUS → v i ≡ w i)
-      → kind.Fit taken given w → kind.Fit taken given v
+      → kind.Coupling taken given w → kind.Coupling taken given v
   -- word 0 is the next ticket
-  pub next_is : (taken given : ℕ) (w : ℕ → ℕ) → kind.Fit taken given w → w 0 ≡ taken % 2 ^ 64
+  pub next_is : (taken given : ℕ) (w : ℕ → ℕ) → kind.Coupling taken given w → w 0 ≡ taken % 2 ^ 64
   -- after word 0, and no other, grew by 1, one spot more is taken
-  pub took : (taken given : ℕ) (w v : ℕ → ℕ) → kind.Fit taken given w → v 0 ≡ (w 0 + 1) % 2 ^ 64
-      → ((i : ℕ) → i ≤ CPUS → i ≢ 0 → v i ≡ w i) → kind.Fit (taken + 1) given v
+  pub took : (taken given : ℕ) (w v : ℕ → ℕ) → kind.Coupling taken given w
+      → v 0 ≡ (w 0 + 1) % 2 ^ 64
+      → ((i : ℕ) → i ≤ CPUS → i ≢ 0 → v i ≡ w i) → kind.Coupling (taken + 1) given v
   -- the word of a waiter fewer than CPUS spots after the served one serves its ticket exactly if
   -- its spot is next
-  pub hits : (taken given : ℕ) (w : ℕ → ℕ) → kind.Fit taken given w → (ticket spot : ℕ)
-      → given ≤ spot → spot < given + CPUS → ticket ≡ spot % 2 ^ 64
-      → kind.serves ticket (w (kind.looks_at ticket)) ≡ (given == spot)
+  pub hits : (taken given : ℕ) (w : ℕ → ℕ) → kind.Coupling taken given w → (ticket ticket_index : ℕ)
+      → given ≤ ticket_index → ticket_index < given + CPUS → ticket ≡ ticket_index % 2 ^ 64
+      → kind.serves ticket (w (kind.looks_at ticket)) ≡ (given == ticket_index)
   -- after only the holder's write, the lock is released once more
-  pub gave : (taken given : ℕ) (w v : ℕ → ℕ) → kind.Fit taken given w → (ticket : ℕ)
+  pub gave : (taken given : ℕ) (w v : ℕ → ℕ) → kind.Coupling taken given w → (ticket : ℕ)
       → ticket ≡ given % 2 ^ 64
       → v (kind.gives_at ticket) ≡ given_on (kind.stores ticket) (w (kind.gives_at ticket))
-      → ((i : ℕ) → i ≤ CPUS → i ≢ kind.gives_at ticket → v i ≡ w i) → kind.Fit taken (given + 1) v
+      → ((i : ℕ) → i ≤ CPUS → i ≢ kind.gives_at ticket → v i ≡ w i)
+      → kind.Coupling taken (given + 1) v
 
 -- a ticket lock: word 1 is `serving`
 abbrev pub ticket_words : WordKind
@@ -64,7 +67,7 @@ ticket_words = record {
   serves = λ ticket read. read == ticket;
   gives_at = λ ticket. 1;
   stores = λ ticket. None;
-  Fit = λ taken given w. (w 0 ≡ taken % 2 ^ 64) × (w 1 ≡ given % 2 ^ 64);
+  Coupling = λ taken given w. (w 0 ≡ taken % 2 ^ 64) × (w 1 ≡ given % 2 ^ 64);
 }
 
 -- grant words after `next`: that of ticket n is at n modulo CPUS among them, and holds n + 1 once n
@@ -76,6 +79,6 @@ grant_words = record {
   serves = λ ticket read. read == (ticket + 1) % 2 ^ 64;
   gives_at = λ ticket. (ticket + 1) % CPUS + 1;
   stores = λ ticket. Some ((ticket + 2) % 2 ^ 64);
-  Fit =
+  Coupling =
       λ taken given w. (w 0 ≡ taken % 2 ^ 64) × ((k : ℕ) → k < CPUS → WordFits k given (w (k + 1)));
 }

@@ -26,7 +26,7 @@ pub record ShowsLock (kind : WordKind) {E B : Type 0} (edited : E → B → B)
     (log : List (Event (Mark E))) (lock : LockId) : Type 0 where
   pub home : Maybe (Home E B)
   pub at : get_elem? homes (rank_of start lock) ≡ some home
-  pub words_are : kind.Fit (draws lock log) (frees lock log)
+  pub words_are : kind.Coupling (draws lock log) (frees lock log)
       (words_at_rank words (rank_of start lock))
   pub is : HomeFits edited (opened start) log lock (home_block home)
 
@@ -41,12 +41,12 @@ pub record Shows (kind : WordKind) {E B : Type 0} (edited : E → B → B) (star
 
 -- the invariant of the table: there is one legal log of its CPUs; the words and slots are its
 -- replay, the views are prefixes of it
-pub record TableInv (kind : WordKind) {E B O : Type 0} (rules : Rules E B O) (cpu_count : ℕ)
+pub record TableInv (kind : WordKind) {E B O : Type 0} (protocol : Rules E B O) (cpu_count : ℕ)
     (start : List (LockId × B))
     (s : State (Home E B) (View E B)) : Type 0 where
   pub few : cpu_count ≤ CPUS
   pub log : List (Event (Mark E))
-  pub legal : IsLawful (MayCome (rules.allowed (opened start))) log
-  pub shows : Shows kind rules.edited start s.words s.homes log
+  pub legal : IsLawful (MayCome (protocol.allowed (opened start))) log
+  pub shows : Shows kind protocol.edited start s.words s.homes log
   pub sees : Sees cpu_count s.views log
   pub rest : (c : CpuId) → cpu_count ≤ c.0 → AreOthers cpu_of_event c log

@@ -11,5 +11,5 @@ stored_words = record {
   serves = λ ticket read. read == ticket;
   gives_at = λ ticket. 1;
   stores = λ ticket. Some ((ticket + 1) % 2 ^ 64);
-  Fit = λ taken given w. (w 0 ≡ taken % 2 ^ 64) × (w 1 ≡ given % 2 ^ 64);
+  Coupling = λ taken given w. (w 0 ≡ taken % 2 ^ 64) × (w 1 ≡ given % 2 ^ 64);
 }

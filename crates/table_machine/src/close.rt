@@ -29,7 +29,7 @@ impl<E: SplitEdit, K: TableWords> Shared<E, K> {
     pub fn close(self, keys: Vec<Key<E>>) -> Vec<(LockId, E::Block)>
         requires covers { Covers self.cpus keys.items }
         requires keys { All (IsOver self) keys.items }
-        ensures { ClosesTable E.rules self keys.items result.items }
+        ensures { ClosesTable E.protocol self keys.items result.items }
     {
         let seat = self.gathered(keys);
         let Shared {

@@ -32,9 +32,9 @@ impl<E: SplitEdit> Model for Key<E> {
 
     ghost Value = { SeatView E E.Block };
 
-    ghost view = { λ k. record { cpu = k.cpu; table = k.token.table_id; start = k.token.me.0.start; seen = k.token.me.0.seen } };
+    ghost view = { λ k. record { cpu = k.cpu; table = k.token.table_id; start = k.token.me.0.start; history = k.token.me.0.history } };
 
-    ghost invariant = { λ k. IsKey E.rules k.cpu k.ticket k.token.me };
+    ghost invariant = { λ k. IsKey E.protocol k.cpu k.ticket k.token.me };
 }
 
 impl<E: SplitEdit> Key<E> {
@@ -47,7 +47,7 @@ impl<E: SplitEdit> Key<E> {
 
     // Law: what was seen is legal.
     pub(crate) fn lawful(&self)
-        ensures { IsLawful (MayCome (E.rules.allowed (opened self.now.start))) self.now.seen }
+        ensures { IsLawful (MayCome (E.protocol.allowed (opened self.now.start))) self.now.history }
     {
         let _token = &self.token;
     }
@@ -56,11 +56,12 @@ impl<E: SplitEdit> Key<E> {
     pub(crate) fn draw<K: TableWords>(&mut self, shared: &Shared<E, K>, lock: LockId) -> u64
         requires of { IsOf shared.now self.old }
         requires lock { IsSome (opened self.old.start lock) }
-        requires outside { lock_phase self.old.cpu self.old.seen ≡ Idle }
-        ensures same { self.new ≡ record self.old { seen = self.new.seen } }
+        requires outside { lock_phase self.old.cpu self.old.history ≡ Idle }
+        ensures same { self.new ≡ record self.old { history = self.new.history } }
         ensures adds { Adds (IsThisCpu self.old.cpu) cpu_of_event (Draw self.old.cpu lock result)
-            self.old.seen self.new.seen }
-        ensures legal { IsLawful (MayCome (E.rules.allowed (opened self.old.start))) self.new.seen }
+            self.old.history self.new.history }
+        ensures legal { IsLawful (MayCome (E.protocol.allowed (opened self.old.start)))
+            self.new.history }
     {
         let word = shared.word(lock, 0);
         let table = &shared.table.shared;
@@ -78,17 +79,19 @@ impl<E: SplitEdit> Key<E> {
     ) -> Option<E::Block>
         requires of { IsOf shared.now self.old }
         requires lock { IsSome (opened self.old.start lock) }
-        requires waiting { lock_phase self.old.cpu self.old.seen ≡ Waiting lock ticket }
-        ensures same { self.new ≡ record self.old { seen = self.new.seen } }
+        requires waiting { lock_phase self.old.cpu self.old.history ≡ Waiting lock ticket }
+        ensures same { self.new ≡ record self.old { history = self.new.history } }
         ensures adds { (read : ℕ)
             × Adds (IsThisCpu self.old.cpu) cpu_of_event (Look self.old.cpu lock ticket read)
-            self.old.seen self.new.seen }
+            self.old.history self.new.history }
         ensures hits { MatchOption result
-            (lock_phase self.old.cpu self.new.seen ≡ Waiting lock ticket)
-            (λ block. (lock_phase self.old.cpu self.new.seen ≡ Holding lock ticket)
-            × (block_after E.rules.edited (opened self.old.start) lock (sections self.new.seen)
+            (lock_phase self.old.cpu self.new.history ≡ Waiting lock ticket)
+            (λ block. (lock_phase self.old.cpu self.new.history ≡ Holding lock ticket)
+            × (block_after E.protocol.edited (opened self.old.start) lock
+            (sections self.new.history)
             ≡ Some block)) }
-        ensures legal { IsLawful (MayCome (E.rules.allowed (opened self.old.start))) self.new.seen }
+        ensures legal { IsLawful (MayCome (E.protocol.allowed (opened self.old.start)))
+            self.new.history }
     {
         let word = shared.word(lock, K::looks_at(ticket));
         let rank = shared.rank(lock);
@@ -112,16 +115,17 @@ impl<E: SplitEdit> Key<E> {
         requires of { IsOf shared.now self.old }
         requires lock { IsSome (opened self.old.start lock) }
         requires inside { (ticket : ℕ)
-            × (lock_phase self.old.cpu self.old.seen ≡ Holding lock ticket) }
-        requires edited { option_map (E.rules.edited edit)
-            (block_after E.rules.edited (opened self.old.start) lock (sections self.old.seen))
+            × (lock_phase self.old.cpu self.old.history ≡ Holding lock ticket) }
+        requires edited { option_map (E.protocol.edited edit)
+            (block_after E.protocol.edited (opened self.old.start) lock (sections self.old.history))
             ≡ Some block }
-        requires allowed { StaysAllowed (E.rules.allowed (opened self.old.start))
-            (sections self.old.seen) (section self.old.cpu lock edit) }
-        ensures same { self.new ≡ record self.old { seen = self.new.seen } }
+        requires allowed { StaysAllowed (E.protocol.allowed (opened self.old.start))
+            (sections self.old.history) (section self.old.cpu lock edit) }
+        ensures same { self.new ≡ record self.old { history = self.new.history } }
         ensures adds { Adds (IsThisCpu self.old.cpu) cpu_of_event
-            (Free self.old.cpu lock (mark_of edit)) self.old.seen self.new.seen }
-        ensures legal { IsLawful (MayCome (E.rules.allowed (opened self.old.start))) self.new.seen }
+            (Free self.old.cpu lock (mark_of edit)) self.old.history self.new.history }
+        ensures legal { IsLawful (MayCome (E.protocol.allowed (opened self.old.start)))
+            self.new.history }
     {
         let word = shared.word(lock, K::gives_at(self.ticket));
         let rank = shared.rank(lock);
@@ -141,7 +145,7 @@ impl<E: SplitEdit> Key<E> {
         requires { IsOf shared.now self.old }
         ensures same { self.new ≡ self.old }
         ensures table { result.table_id ≡ self.old.table }
-        ensures notes { result.me ≡ (caught_up self.old.start [] self.old.seen, []) }
+        ensures notes { result.me ≡ (caught_up self.old.start [] self.old.history, []) }
     {
         shared.table.shared.split_seat::<Copies>(&mut self.token)
     }
@@ -151,10 +155,12 @@ impl<E: SplitEdit> Key<E> {
         requires of { IsOf shared.now self.old }
         requires table { notes.table_id ≡ self.old.table }
         requires notes { (notes.me.1 ≡ []) × (notes.me.0.cpus ≡ []) }
-        ensures same { self.new ≡ record self.old { seen = self.new.seen } }
-        ensures begins { EndsWith self.new.seen notes.me.0.seen }
-        ensures grows { Grows (IsThisCpu self.old.cpu) cpu_of_event self.old.seen self.new.seen }
-        ensures legal { IsLawful (MayCome (E.rules.allowed (opened self.old.start))) self.new.seen }
+        ensures same { self.new ≡ record self.old { history = self.new.history } }
+        ensures begins { EndsWith self.new.history notes.me.0.history }
+        ensures grows { Grows (IsThisCpu self.old.cpu) cpu_of_event self.old.history
+            self.new.history }
+        ensures legal { IsLawful (MayCome (E.protocol.allowed (opened self.old.start)))
+            self.new.history }
     {
         let table = &shared.table.shared;
         table.join_seat::<Copies>(&mut self.token, notes);

@@ -13,7 +13,7 @@ pub(crate) struct Draws<E> {
 }
 
 impl<E: SplitEdit> Play<Slot<E, E::Block>, View<E, E::Block>> for Draws<E> {
-    ghost then = { Drew E.rules };
+    ghost then = { Drew E.protocol };
 }
 
 /// A load of the word that a waiter polls.
@@ -23,7 +23,7 @@ pub(crate) struct Looks<E, K> {
 }
 
 impl<E: SplitEdit, K: TableWords> Play<Slot<E, E::Block>, View<E, E::Block>> for Looks<E, K> {
-    ghost then = { λ _ v found w. LookedAtWord K.kind E.rules v found w };
+    ghost then = { λ _ v found w. LookedAtWord K.kind E.protocol v found w };
 }
 
 /// A write of the word by which a lock is released: a fetch-and-add or a store.
@@ -32,7 +32,7 @@ pub(crate) struct Frees<E> {
 }
 
 impl<E: SplitEdit> Play<Slot<E, E::Block>, View<E, E::Block>> for Frees<E> {
-    ghost then = { λ _ v _ w. Freed E.rules v w };
+    ghost then = { λ _ v _ w. Freed E.protocol v w };
 }
 
 /// A load that is no event: the seat merges what it received.
@@ -41,7 +41,7 @@ pub(crate) struct Meets<E> {
 }
 
 impl<E: SplitEdit> Play<Slot<E, E::Block>, View<E, E::Block>> for Meets<E> {
-    ghost then = { Met E.rules };
+    ghost then = { Met E.protocol };
 }
 
 /// The load of a new seat, which acts for no CPU.
@@ -60,9 +60,9 @@ impl<E, B> Split<View<E, B>> for Deals {
     ghost use Rattle.std.specs.Prelude.{[], ◌∷◌, drop};
     ghost use Rattle.table_machine.specs.Views.{caught_up, mine, owner};
 
-    ghost left = { λ v. caught_up v.start (drop 1 v.cpus) v.seen };
+    ghost left = { λ v. caught_up v.start (drop 1 v.cpus) v.history };
 
-    ghost right = { λ v. mine v.start (owner v.cpus) v.seen };
+    ghost right = { λ v. mine v.start (owner v.cpus) v.history };
 }
 
 /// What a seat has seen, for another seat. It acts for no CPU.
@@ -73,13 +73,13 @@ impl<E, B> Split<View<E, B>> for Copies {
 
     ghost left = { λ v. v };
 
-    ghost right = { λ v. caught_up v.start [] v.seen };
+    ghost right = { λ v. caught_up v.start [] v.history };
 }
 
 impl<E, B> Join<View<E, B>> for Copies {
     ghost use Rattle.{std.specs.Prelude.{[]}, table_machine.specs.Views.caught_up};
 
-    ghost both = { λ v w. record { start = v.start; cpus = v.cpus; seen = v.seen; told = w.seen; lent = w.cpus } };
+    ghost both = { λ v w. record { start = v.start; cpus = v.cpus; history = v.history; told = w.history; lent = w.cpus } };
 
     ghost spent = { caught_up [] [] [] };
 }

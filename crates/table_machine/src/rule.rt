@@ -28,7 +28,7 @@ impl<E: SplitEdit, K: TableWords> TableRule<Slot<E, E::Block>, View<E, E::Block>
     for LogRule<E, K> {
     ghost use Rattle.{std.specs.Prelude.{[]}, table_machine.specs.{Rule.TableInv, Views.{caught_up, cpus_from}}};
 
-    ghost holds = { λ k. TableInv K.kind E.rules k.cpus k.blocks.value.items };
+    ghost holds = { λ k. TableInv K.kind E.protocol k.cpus k.blocks.value.items };
 
     ghost first = { λ k. caught_up k.blocks.value.items (cpus_from 0 k.cpus) [] };
 }

@@ -41,7 +41,7 @@ impl<E: SplitEdit, K: TableWords> Shared<E, K> {
     pub fn seat(&self, key: Key<E>) -> Seat<'_, E, K>
         requires { IsOf self.now key }
         ensures seat { result ≡ key }
-        ensures lawful { IsLawful (MayCome (E.rules.allowed (opened key.start))) key.seen }
+        ensures lawful { IsLawful (MayCome (E.protocol.allowed (opened key.start))) key.history }
     {
         key.lawful();
         Seat { key, shared: self }
@@ -79,15 +79,15 @@ impl<'a, E: SplitEdit, K: TableWords> Words for Seat<'a, E, K> {
 
     ghost opening = { λ s. opened s.start };
 
-    ghost seen = { λ s. s.seen };
+    ghost history = { λ s. s.history };
 
-    ghost ActsFor = { λ s c. (c ≡ s.cpu) × IsLawful (MayCome (E.rules.allowed (opened s.start))) s.seen };
+    ghost ActsFor = { λ s c. (c ≡ s.cpu) × IsLawful (MayCome (E.protocol.allowed (opened s.start))) s.history };
 
     ghost room = { λ s. 1 };
 
-    ghost site = { λ s. site_of s.table };
+    ghost machine_id = { λ s. site_of s.table };
 
-    fn mark(_handed: E::Handed, edit: E) -> Mark<E> {
+    fn mark(_handed: E::Request, edit: E) -> Mark<E> {
         Mark { edit }
     }
 
@@ -121,11 +121,12 @@ impl<'a, E: SplitEdit> UsesGrantWords for Seat<'a, E, WaiterWords> {}
 pub fn meet<E: SplitEdit, K: TableWords>(first: &mut Seat<'_, E, K>, second: &mut Seat<'_, E, K>)
     requires { second.old.table ≡ first.old.table }
     ensures first { first.new ≡ first.old }
-    ensures second { second.new ≡ record second.old { seen = second.new.seen } }
-    ensures begins { EndsWith second.new.seen first.old.seen }
-    ensures grows { Grows (IsThisCpu second.old.cpu) cpu_of_event second.old.seen second.new.seen }
-    ensures lawful { IsLawful (MayCome (E.rules.allowed (opened second.old.start)))
-        second.new.seen }
+    ensures second { second.new ≡ record second.old { history = second.new.history } }
+    ensures begins { EndsWith second.new.history first.old.history }
+    ensures grows { Grows (IsThisCpu second.old.cpu) cpu_of_event second.old.history
+        second.new.history }
+    ensures lawful { IsLawful (MayCome (E.protocol.allowed (opened second.old.start)))
+        second.new.history }
 {
     let notes = first.key.notes(first.shared);
     second.key.take_in(second.shared, notes);

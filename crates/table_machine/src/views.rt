@@ -83,7 +83,7 @@ pub struct View<E, B> {
     /// The CPUs that this seat acts for.
     pub cpus: LinkedList<CpuId>,
     /// The log that it has seen.
-    pub seen: LinkedList<Event<Mark<E>>>,
+    pub history: LinkedList<Event<Mark<E>>>,
     /// What another seat had seen, until the next load merges it.
     pub told: LinkedList<Event<Mark<E>>>,
     /// The CPUs that the other seat acted for.

@@ -9,7 +9,8 @@ use Rattle.tracer.{specs.Versions.{covers, version_from, version_of}, proofs.Ope
 use Rattle.tracer.proofs.{OpeningLemmas.{opened, cap_is_line, step_cap}, VersionLemmas.{covers_next, version_more}, SplitLemmas.{IsLine, line_read}}
 use Rattle.tracer.proofs.{KnownLemmas.known_fresh_from, EntryLemmas.{progress, behind_e}, StepLemmas.{entry_is_line, step_entry, behind_left, left_is_line}}
 use Rattle.{tracer.proofs.StepLemmas.{step_first_left, step_left}, event_log.specs.{Messages.Message, declared.ids.TheConstants.{BUFFERS, ENTRIES}}}
-use Rattle.event_log.specs.{declared.entries.Entry.Entry, Buffers.{items_of, empty_buffers, after_effect, IsCapacity}, Runs.{after_entry, IsRunFrom, IsRun}}
+use Rattle.event_log.specs.{declared.entries.Entry.Entry, Buffers.{items_of, empty_buffers, after_effect, IsCapacity}, Runs.{after_entry, IsRunFrom}}
+use Rattle.event_log.specs.Runs.{IsLegalHistory}
 use Rattle.tracer.specs.declared.next_lines.NextLine.TheVariants as wants
 
 -- the last line
@@ -93,7 +94,7 @@ complete_caps v count caps (k ∷ ks) tail n all few small behind =
     (cap_is_line (length caps) k (omega arith) small.0) (step_cap v count caps k small.0 (omega arith))
     ∙ rw longer at (complete_caps v count (caps ++ k ∷ []) ks tail (n + 1) (omega arith) few small.1 (λ m. rw append_assoc (behind m))))
 
-complete_lines : (caps : List ℕ) (es : List Entry) (left : List (List Message)) → IsSpellable caps es left → IsRun caps es left
+complete_lines : (caps : List ℕ) (es : List Entry) (left : List (List Message)) → IsSpellable caps es left → IsLegalHistory caps es left
     → verdict_from text_start 1 (lines_in (spelling caps es left)) ≡ Yes
 unfolding spelling lines_of
 complete_lines caps es left fits run =
@@ -115,6 +116,7 @@ complete_lines caps es left fits run =
     (flat_map text_line (numbered cap_pieces 0 caps ++ tail)) (count_is_line_of (length caps) fits.few_buffers)
     (step_count (length caps) opens refl fits.some_buffer fits.few_buffers) ∙ rw goes at all
 
-pub complete : (text caps : List ℕ) (es : List Entry) (left : List (List Message)) → IsTraceText text caps es left → IsRun caps es left → verdict_of text ≡ Yes
+pub complete : (text caps : List ℕ) (es : List Entry) (left : List (List Message)) → IsTraceText text caps es left → IsLegalHistory caps es left
+    → verdict_of text ≡ Yes
 unfolding verdict_of
 complete text caps es left spelled run = rw spelled.spelled (complete_lines caps es left spelled.spellable run)

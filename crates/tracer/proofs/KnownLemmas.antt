@@ -57,7 +57,7 @@ bumped_by counts n = grind arith
 
 -- a buffer after an effect on it
 abbrev after_seen : Kind → Message → Seen → Seen
-after_seen kind value seen = seen_behind (group_of kind) (after_effect kind seen.items value) seen
+after_seen kind value history = seen_behind (group_of kind) (after_effect kind history.items value) history
 
 seen_here : (earlier : List Entry) (contents : List (List Message)) (e : Entry) (capacity : ℕ) → e.buffer.0 < length contents
     → seen_of (earlier ++ e ∷ []) (after_entry contents e) e.buffer.0 capacity ≡ after_seen e.kind e.value (seen_of earlier contents e.buffer.0 capacity)
@@ -123,11 +123,11 @@ pub among_again : (caps : List ℕ) (earlier : List Entry) (contents : List (Lis
     → IsNext caps earlier contents e → entry_among e (known_from earlier contents 0 caps) ≡ Ok (known_from (earlier ++ e ∷ []) (after_entry contents e) 0 caps)
 unfolding entry_among entry_on
 among_again caps earlier contents e long next =
-    let seen = seen_of earlier contents e.buffer.0 (get_or caps e.buffer.0 0) in
-    let op : (e.op == seen.ops) ≡ true = eq-eqb e.op seen.ops next.op in
-    let pos : (e.pos == next_pos (group_of e.kind) seen) ≡ true =
-    eq-eqb e.pos (next_pos (group_of e.kind) seen) (next.pos ∙ sym (pos_of earlier contents e.buffer.0 (get_or caps e.buffer.0 0) e.kind)) in
-    let effect = effect_again e.kind e.value (was_closed seen) seen.capacity seen.items next.allowed in
+    let history = seen_of earlier contents e.buffer.0 (get_or caps e.buffer.0 0) in
+    let op : (e.op == history.ops) ≡ true = eq-eqb e.op history.ops next.op in
+    let pos : (e.pos == next_pos (group_of e.kind) history) ≡ true =
+    eq-eqb e.pos (next_pos (group_of e.kind) history) (next.pos ∙ sym (pos_of earlier contents e.buffer.0 (get_or caps e.buffer.0 0) e.kind)) in
+    let effect = effect_again e.kind e.value (was_closed history) history.capacity history.items next.allowed in
     rw (slice_get-known earlier contents caps e.buffer.0 next.known, op, pos, effect) (ap Ok (known_after caps earlier contents e long next.known))
 
 pub same_some : (x y : Seen) → Some x ≡ Some y → x ≡ y
@@ -143,24 +143,24 @@ among_taken caps earlier contents e after long none taken =
     let at = or_range_taken (slice_get (known_from earlier contents 0 caps) e.buffer.0) found.0 found.1 in
     let inside : e.buffer.0 < length caps =
     omega (arith, slice_get_within (known_from earlier contents 0 caps) e.buffer.0 found.0 at, length-known_from earlier contents 0 caps) in
-    let seen = seen_of earlier contents e.buffer.0 (get_or caps e.buffer.0 0) in
-    let same : found.0 ≡ seen = same_some found.0 seen (sym at ∙ slice_get-known earlier contents caps e.buffer.0 inside) in
+    let history = seen_of earlier contents e.buffer.0 (get_or caps e.buffer.0 0) in
+    let same : found.0 ≡ history = same_some found.0 history (sym at ∙ slice_get-known earlier contents caps e.buffer.0 inside) in
     let stepped = bind_ok (entry_on e found.0) _ after found.2 in
-    let read : entry_on e seen ≡ Ok stepped.0 = ap (entry_on e) (sym same) ∙ stepped.1 in
+    let read : entry_on e history ≡ Ok stepped.0 = ap (entry_on e) (sym same) ∙ stepped.1 in
     let group = group_of e.kind in
-    let effects = item_effect e.kind e.value (was_closed seen) seen.capacity seen.items in
-    let done = effects >>= λ items. Ok (seen_behind group items seen) in
-    let op = wanted_ok (e.op == seen.ops) Op (or_reason (e.pos == next_pos group seen) Pos done) stepped.0 read in
-    let pos = wanted_ok (e.pos == next_pos group seen) Pos done stepped.0 op.1 in
+    let effects = item_effect e.kind e.value (was_closed history) history.capacity history.items in
+    let done = effects >>= λ items. Ok (seen_behind group items history) in
+    let op = wanted_ok (e.op == history.ops) Op (or_reason (e.pos == next_pos group history) Pos done) stepped.0 read in
+    let pos = wanted_ok (e.pos == next_pos group history) Pos done stepped.0 op.1 in
     let items = bind_ok effects _ stepped.0 pos.1 in
-    let effect = effect_taken e.kind e.value (was_closed seen) seen.capacity seen.items items.0 none items.1 in
-    let now : stepped.0 ≡ after_seen e.kind e.value seen = sym (same_ok (seen_behind group items.0 seen) stepped.0 items.2)
-    ∙ ap (λ (l : List Message). seen_behind group l seen) effect.1 in (
+    let effect = effect_taken e.kind e.value (was_closed history) history.capacity history.items items.0 none items.1 in
+    let now : stepped.0 ≡ after_seen e.kind e.value history = sym (same_ok (seen_behind group items.0 history) stepped.0 items.2)
+    ∙ ap (λ (l : List Message). seen_behind group l history) effect.1 in (
       record {
         known = inside;
         allowed = effect.0;
-        op = eqb-true e.op seen.ops op.0;
-        pos = eqb-true e.pos (next_pos group seen) pos.0 ∙ pos_of earlier contents e.buffer.0 (get_or caps e.buffer.0 0) e.kind;
+        op = eqb-true e.op history.ops op.0;
+        pos = eqb-true e.pos (next_pos group history) pos.0 ∙ pos_of earlier contents e.buffer.0 (get_or caps e.buffer.0 0) e.kind;
       },
       sym (same_ok _ after stepped.2) ∙ ap (λ (next : Seen). slice_set (known_from earlier contents 0 caps) e.buffer.0 next) now
           ∙ known_after caps earlier contents e long inside,

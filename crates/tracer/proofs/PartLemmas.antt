@@ -108,16 +108,16 @@ all_taken old part end now rest so_far none more =
 -- ---- an input that is judged as far as it was read
 
 pub record IsJudgedTo (from now : Option (List ℕ)) (judge : TextJudge) (held : List ℕ) : Type 0 where
-  pub seen : List ℕ
-  pub read : Consumes from now seen
-  pub judged : (more : List ℕ) → verdict_of (seen ++ more) ≡ verdict_behind judge (held ++ more)
+  pub history : List ℕ
+  pub read : Consumes from now history
+  pub judged : (more : List ℕ) → verdict_of (history ++ more) ≡ verdict_behind judge (held ++ more)
 
 -- one part more: it is read, its lines are judged, and what is left is kept
 pub judged_part : (from mid now : Option (List ℕ)) (old new : TextJudge) (held longer part rest : List ℕ) (taken : ℕ) → IsJudgedTo from mid old held
     → IsReadBehind held longer mid now → part ≡ longer → ((more : List ℕ) → verdict_behind old (part ++ more) ≡ verdict_behind new (drop taken part ++ more))
     → rest ≡ drop taken longer → IsJudgedTo from now new rest
 judged_part from mid now old new held longer part rest taken before read same lines left = record {
-  seen = before.seen ++ read.more;
+  history = before.history ++ read.more;
   read = grind (arith, append_assoc);
   judged = λ more. grind (arith, append_assoc, before.judged (read.more ++ more), lines more);
 }
@@ -125,5 +125,5 @@ judged_part from mid now old new held longer part rest taken before read same li
 pub judged_all : (from now : Option (List ℕ)) (judge : TextJudge) (held : List ℕ) (verdict : Verdict) → IsJudgedTo from now judge held → IsAtEnd now
     → verdict ≡ verdict_behind judge held → ((text : List ℕ) → verdict_of text ≡ Yes → IsTraceOfRun text) → IsVerdictOn from verdict
 judged_all from now judge held verdict before end is sound =
-    let same : verdict ≡ verdict_of before.seen = grind (arith, append-nil, before.judged []) in
-    record { text = before.seen; whole = grind (arith, append-nil); judged = same; run = λ yes. sound before.seen (sym same ∙ yes) }
+    let same : verdict ≡ verdict_of before.history = grind (arith, append-nil, before.judged []) in
+    record { text = before.history; whole = grind (arith, append-nil); judged = same; run = λ yes. sound before.history (sym same ∙ yes) }

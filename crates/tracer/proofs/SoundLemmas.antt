@@ -4,7 +4,7 @@ use Rattle.std.proofs.{Common.{sym, ap, subst, ◌∙◌, append_assoc, eqb-true
 use Rattle.std.proofs.lemmas.List.{length-map, drop_more, drop_all, nil_from_length, Concat.flat_map-append, Splits.join_with_byte-slice_split}
 use Rattle.std.specs.{Prelude.nat_lt, List.{AllByRecursion, flat_map, join_with_byte}}
 use Rattle.event_log.specs.{Messages.Message, declared.{ids.TheConstants.{BUFFERS, ENTRIES}, entries.Entry.Entry}, Buffers.{items_of, empty_buffers}}
-use Rattle.event_log.{specs.{Buffers.IsCapacity, Runs.{IsNext, after_entry, IsRunFrom, IsRun}}, proofs.Streams.taken_put}
+use Rattle.event_log.{specs.{Buffers.IsCapacity, Runs.{IsNext, after_entry, IsRunFrom, IsLegalHistory}}, proofs.Streams.taken_put}
 use Rattle.tracer.specs.{declared.{verdicts.{Reason.Reason, Verdict.{Verdict, TheVariants.Yes}}, versions.Version.{Version, TheVariants.One}}, Versions.covers}
 use Rattle.tracer.specs.{Versions.{version_of_entry, version_from, version_of}, Verdicts.IsTraceOfRun, Judging.{TextProgress, text_start, step, after_line}}
 use Rattle.tracer.specs.Judging.{line_pieces, lines_in, verdict_from, verdict_of, head_line, end_line, count_line, capacity_line, entries_line, left_line}
@@ -169,7 +169,8 @@ sound_caps v count caps n others true is le e = absurd (cc)
 
 -- what it says that the lines from the number of buffers on get yes
 abbrev IsTail : Version → List ℕ → Type 0
-IsTail v text = (caps : List ℕ) × (es : List Entry) × (left : List (List Message)) × IsSpellable caps es left × IsRun caps es left × (v ≡ version_of es)
+IsTail v text =
+    (caps : List ℕ) × (es : List Entry) × (left : List (List Message)) × IsSpellable caps es left × IsLegalHistory caps es left × (v ≡ version_of es)
     × (text ≡ text_line (count_pieces (length caps)) ++ flat_map text_line
     (numbered cap_pieces 0 caps ++ (map entry_pieces es ++ (numbered left_pieces 0 left ++ end_pieces ∷ []))))
 

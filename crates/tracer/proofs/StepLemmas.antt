@@ -142,9 +142,9 @@ pub record LeftTaken (v : Version) (b : ℕ) (caps : List ℕ) (earlier : List E
   pub is : after ≡ progress v (behind_left b caps) caps earlier contents
 
 holds_of : (values : List (List ℕ)) (found : Option Seen) → is_left values found ≡ true
-    → (seen : Seen) × (found ≡ Some seen) × (are_values values seen.items ≡ true)
+    → (history : Seen) × (found ≡ Some history) × (are_values values history.items ≡ true)
 holds_of values None e = absurd (cc)
-holds_of values (Some seen) e = (seen, refl, e)
+holds_of values (Some history) e = (history, refl, e)
 
 pub left_line_taken : (v : Version) (at : NextLine) (b : ℕ) (caps : List ℕ) (earlier : List Entry) (contents : List (List Message)) (ps : List (List ℕ))
     (after : TextProgress) → left_line b ps (progress v at caps earlier contents) ≡ Ok after → LeftTaken v b caps earlier contents ps after

@@ -30,6 +30,6 @@ taken_alike earlier traces (e ∷ es) (f ∷ fs) long first second = elim (cases
   ]
 ]
 
-pub one_order : OneOrderIsTaken
-one_order traces one other keeps also first second =
+pub linearization : OneOrderIsTaken
+linearization traces one other keeps also first second =
     taken_alike [] traces one other (length_of_order traces one keeps ∙ sym (length_of_order traces other also)) first second

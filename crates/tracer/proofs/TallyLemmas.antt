@@ -10,11 +10,11 @@ seen_at : (ts : List Tally) (b : ℕ) (d : Tally) → b < length ts → slice_ge
 seen_at ts b d lt = slice_get-map seen_in ts b ∙ ap (option_map seen_in) (slice_get-get_or ts b d lt)
 
 abbrev among : Entry → List Seen → Option Seen → Result (List Seen) Reason
-among e buffers seen = or_range seen >>= λ here. entry_on e here >>= λ next. Ok (slice_set buffers e.buffer.0 next)
+among e buffers history = or_range history >>= λ here. entry_on e here >>= λ next. Ok (slice_set buffers e.buffer.0 next)
 
-stepped : (e : Entry) (ts : List Tally) (seen : Seen) (new : Tally) (r : Result (Unit {0}) Reason) → StepsTo (entry_on e seen) r (seen_in new)
-    → StepsTo (among e (map seen_in ts) (Some seen)) r (map seen_in (set ts e.buffer.0 new))
-stepped e ts seen new r given = grind (arith, map-set)
+stepped : (e : Entry) (ts : List Tally) (history : Seen) (new : Tally) (r : Result (Unit {0}) Reason) → StepsTo (entry_on e history) r (seen_in new)
+    → StepsTo (among e (map seen_in ts) (Some history)) r (map seen_in (set ts e.buffer.0 new))
+stepped e ts history new r given = grind (arith, map-set)
 
 pub entered : (e : Entry) (ts : List Tally) (b : ℕ) (d new : Tally) (r : Result (Unit {0}) Reason) → b ≡ e.buffer.0 → b < length ts
     → StepsTo (entry_on e (seen_in (get_or ts b d))) r (seen_in new) → StepsTo (entry_among e (map seen_in ts)) r (map seen_in (set ts b new))

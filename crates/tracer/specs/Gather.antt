@@ -1,8 +1,8 @@
 -- Which order of several traces is gathered.
 use Rattle.std.specs.Prelude.{◌≡◌, ◌<◌, ◌==◌, ℕ, List, [], ◌∷◌, ◌++◌, Option, Some, filter, map}
 use Rattle.std.specs.{Prelude.{slice_get, slice_index, slice_index_or, slice_set}, Borrow.Bor}
-use Rattle.event_log.specs.{Messages.Message, declared.entries.Entry.Entry, Runs.{count_of, IsRun}}
-use Rattle.event_log.specs.Traces.{IsInterleaving, HasOpOrder}
+use Rattle.event_log.specs.{Messages.Message, declared.entries.Entry.Entry, Runs.count_of}
+use Rattle.event_log.specs.{Runs.IsLegalHistory, Traces.{IsInterleaving, HasOpOrder}}
 
 -- the traces that slices hold
 abbrev pub traces_in : List (Bor (List Entry)) → List (List Entry)
@@ -43,7 +43,7 @@ HasNoOrder traces = (order : List Entry) → ¬ IsOrder traces order
 abbrev pub RunsHaveOrder : List (List Entry) → Type 0
 RunsHaveOrder traces =
     (caps : List ℕ) (order : List Entry) (left : List (List Message)) → IsInterleaving traces order
-    → IsRun caps order left
+    → IsLegalHistory caps order left
     → ¬ HasNoOrder traces
 
 -- if some order of the traces is a legal history, each order of them is one that ends in the same
@@ -52,7 +52,7 @@ abbrev pub OrdersRunAlike : List (List Entry) → Type 0
 OrdersRunAlike traces =
     (caps : List ℕ) (order other : List Entry) (left : List (List Message))
     → IsInterleaving traces order
-    → IsRun caps order left → IsOrder traces other → IsRun caps other left
+    → IsLegalHistory caps order left → IsOrder traces other → IsLegalHistory caps other left
 
 -- the entries of buffer b
 abbrev pub on_buffer : ℕ → List Entry → List Entry

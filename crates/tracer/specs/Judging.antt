@@ -98,13 +98,13 @@ text_start = record { at = wants.Head; version = One; lowest = One; buffers = []
 
 -- whether the buffer was closed
 abbrev pub was_closed : Seen → Bool
-was_closed seen = nat_lt 0 seen.closes
+was_closed history = nat_lt 0 history.closes
 
 -- the pos that an effect of this group must have
 abbrev pub next_pos : Group → Seen → ℕ
-next_pos Sends seen = seen.sends
-next_pos Receives seen = seen.recvs
-next_pos Closes seen = seen.closes
+next_pos Sends history = history.sends
+next_pos Receives history = history.recvs
+next_pos Closes history = history.closes
 
 -- one more, if it counts
 abbrev pub bumped : Bool → ℕ → ℕ
@@ -112,13 +112,13 @@ bumped counts n = if counts then n + 1 else n
 
 -- a buffer after an effect of this group that leaves these items
 abbrev pub seen_behind : Group → List Message → Seen → Seen
-seen_behind group items seen = record {
-  capacity = seen.capacity;
+seen_behind group items history = record {
+  capacity = history.capacity;
   items = items;
-  ops = seen.ops + 1;
-  sends = bumped (same_group group Sends) seen.sends;
-  recvs = bumped (same_group group Receives) seen.recvs;
-  closes = bumped (same_group group Closes) seen.closes;
+  ops = history.ops + 1;
+  sends = bumped (same_group group Sends) history.sends;
+  recvs = bumped (same_group group Receives) history.recvs;
+  closes = bumped (same_group group Closes) history.closes;
 }
 
 -- a send needs room
@@ -143,10 +143,10 @@ item_effect RecvClosed value closed capacity items =
 
 -- the buffer after an entry
 unfoldable pub entry_on : Entry → Seen → Result Seen Reason
-entry_on e seen = or_reason (e.op == seen.ops) Op
-    (or_reason (e.pos == next_pos (group_of e.kind) seen) Pos
-    (item_effect e.kind e.value (was_closed seen) seen.capacity seen.items >>= λ items. Ok
-    (seen_behind (group_of e.kind) items seen)))
+entry_on e history = or_reason (e.op == history.ops) Op
+    (or_reason (e.pos == next_pos (group_of e.kind) history) Pos
+    (item_effect e.kind e.value (was_closed history) history.capacity history.items >>= λ items. Ok
+    (seen_behind (group_of e.kind) items history)))
 
 -- ---- the lines
 
@@ -258,7 +258,7 @@ entry_in digits = in_range (CPUS - 1) digits.cpu
 -- the buffers after an entry of one of them
 unfoldable pub entry_among : Entry → List Seen → Result (List Seen) Reason
 entry_among e buffers = or_range (slice_get buffers e.buffer.0)
-    >>= λ seen. entry_on e seen
+    >>= λ history. entry_on e history
     >>= λ next. Ok (slice_set buffers e.buffer.0 next)
 
 unfoldable pub entry_line : List (List ℕ) → TextProgress → Result TextProgress Reason
@@ -331,7 +331,7 @@ is_within piece = is_ok (message_in piece)
 -- the items of buffer b are what the pieces say
 abbrev pub is_left : List (List ℕ) → Option Seen → Bool
 is_left values None = false
-is_left values (Some seen) = are_values values seen.items
+is_left values (Some history) = are_values values history.items
 
 unfoldable pub left_line : ℕ → List (List ℕ) → TextProgress → Result TextProgress Reason
 left_line b pieces s = left_digits s.version b pieces

@@ -1,6 +1,6 @@
 -- What a text must be so that the judge says yes, in terms of the buffers.
 use Rattle.std.specs.Prelude.{◌≡◌, ℕ, List, Option, IfSome}
-use Rattle.event_log.specs.{Messages.Message, declared.entries.Entry.Entry, Runs.IsRun}
+use Rattle.event_log.specs.{Messages.Message, declared.entries.Entry.Entry, Runs.IsLegalHistory}
 use Rattle.event_log.specs.Streams.{IsFirstInFirstOut}
 use Rattle.tracer.specs.{declared.verdicts.Verdict.{Verdict, TheVariants.Yes}, Judging.verdict_of}
 use Rattle.tracer.specs.TraceText.{IsTraceText}
@@ -11,7 +11,7 @@ use Rattle.tracer.specs.TraceText.{IsTraceText}
 abbrev pub IsTraceOfRun : List ℕ → Type 0
 IsTraceOfRun text =
     (caps : List ℕ) × (es : List Entry) × (left : List (List Message))
-    × IsTraceText text caps es left × IsRun caps es left
+    × IsTraceText text caps es left × IsLegalHistory caps es left
     × IsFirstInFirstOut es left
 
 -- The verdict is that on a text, which is all that was left to read if that is known. After a yes

@@ -8,7 +8,7 @@ ghost use Rattle.tracer.specs.declared.checking.InputFault.TheVariants.{NoMemory
 
 use crate::common_lines::lines_end;
 use crate::judge::Judge;
-use crate::laws::yes_is_right;
+use crate::laws::check_is_sound;
 use crate::parts::Part;
 use crate::reads::ReadFailed;
 use crate::verdicts::{Reason, Verdict};
@@ -97,7 +97,7 @@ pub fn check(text: &[u8]) -> Verdict
     ensures verdict { result ≡ verdict_of text.now }
     ensures run { result ≡ SaysYes → IsTraceOfRun text.now }
 {
-    yes_is_right();
+    check_is_sound();
     judged(text)
 }
 
@@ -149,7 +149,7 @@ pub fn check_input<R: Read>(alloc: Global, input: &mut R) -> Result<Verdict, Inp
     ensures end { OnOk result (IsAtEnd (R.remaining input.new)) }
     ensures retried { IfErr result (λ fault. fault ≢ FaultOfRead Interrupted) }
 {
-    yes_is_right();
+    check_is_sound();
     let mut part = Part::new(alloc)?;
     let mut judge = TextJudge::new();
     for _ in 0..u64::MAX {

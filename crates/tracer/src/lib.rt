@@ -32,7 +32,7 @@ mod writing;
 pub use checking::{InputFault, check, check_input};
 pub use event_log::{Entry, Kind};
 pub use gathering::{GatherError, gather, gathered_is_a_run};
-pub use laws::{one_order_is_taken, yes_is_right};
+pub use laws::{check_is_sound, one_order_is_taken};
 pub use sinks::{Sink, WriteFault};
 pub use verdicts::{Reason, Verdict};
 pub use writing::write_trace;

@@ -9,7 +9,7 @@ pub struct AddOne;
 impl AddOne {
     /// Adds 1 to this number, and returns the old one.
     pub fn to(number: &mut u64) -> u64 {
-        AddOne::apply_handed(&AddOne, number, &mut Payload::new())
+        AddOne::apply_request(&AddOne, number, &mut Payload::new())
     }
 }
 
@@ -18,21 +18,21 @@ impl SplitEdit for AddOne {
 
     type Out = u64;
 
-    type Handed = AddOne;
+    type Request = AddOne;
 
-    type Brought = u64;
+    type Response = u64;
 
-    ghost rules = { tt };
+    ghost protocol = { tt };
 
-    ghost meant = { tt };
+    ghost abstract_call = { tt };
 
-    ghost told = { tt };
+    ghost abstract_answer = { tt };
 
     fn whole(_handed: &AddOne, _payload: &Payload) -> AddOne {
         AddOne
     }
 
-    fn apply_handed(_handed: &AddOne, block: &mut u64, _payload: &mut Payload) -> u64 {
+    fn apply_request(_handed: &AddOne, block: &mut u64, _payload: &mut Payload) -> u64 {
         let old = *block;
         *block = old.wrapping_add(1);
         old

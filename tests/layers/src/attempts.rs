@@ -1,7 +1,7 @@
 //! Attempts on one buffer with room for one message: who waits at it, and how a close lets them go one after the other.
 
 use event_log::{Kind, Msg, Tid};
-use layer_traits::{Parcel, Side, Sleeps, Wake};
+use layer_traits::{MessageSlot, Side, Sleeps, Wake};
 use plain_layers::{Ask, Attempt, PlainBuffer, Tried};
 use std::test::*;
 
@@ -30,7 +30,7 @@ fn tries(buffer: &mut PlainBuffer, thread: u8, ask: Ask) -> Told {
         thread: Tid(thread),
         ask,
     };
-    match Attempt::apply_handed(&attempt, None, buffer, &mut Parcel::new()) {
+    match Attempt::apply_request(&attempt, None, buffer, &mut MessageSlot::new()) {
         Tried::Refused(Side::Receivers) => Told::WaitsToReceive,
         Tried::Refused(Side::Senders) => Told::WaitsToSend,
         Tried::Acted(effect, woke) => {

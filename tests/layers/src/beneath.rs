@@ -5,7 +5,7 @@ use crate::texts::{gathered, written};
 use arrayvec::ArrayVec;
 use boot::{Boot, LockKind};
 use event_log::*;
-use guest::{Instruction, Into, Program, Register, Source, Thread};
+use guest::{Instruction, Target, Program, Register, Source, Thread};
 use std::alloc::Global;
 use std::io::{self, Write};
 use std::marker::Brand;
@@ -16,18 +16,18 @@ use tracer::{GatherError, Sink, WriteFault};
 
 #[test]
 fn each_law_of_events_can_be_called(_rt: HostRuntime) {
-    both_forms_agree::<u8>();
+    log_orders_agree::<u8>();
     legal_logs_grow::<u8>();
     one_holds::<u8>();
-    one_inside::<u8>();
-    tickets_tell_spots::<u8>();
+    mutual_exclusion::<u8>();
+    tickets_tell_indices::<u8>();
     three_are_one_section::<u8>();
     free_where_all_rest::<u8>();
     given_once_meanwhile::<u8>();
-    waits_for_few::<u8>();
+    bounded_bypass::<u8>();
     freed_once_meanwhile::<u8>();
-    grants_tell_spots::<u8>();
-    one_inside_grants::<u8>();
+    grants_tell_indices::<u8>();
+    mutual_exclusion_grants::<u8>();
 }
 
 #[test]
@@ -181,7 +181,7 @@ fn a_plan_is_read_whole(rt: HostRuntime) -> Result<(), Fail> {
             (boot.home(Tid(0)), boot.home(Tid(1))),
             (CpuId(1), CpuId(0))
         );
-        let receives = Instruction::Recv(BufId(1), Into::One(Register::Reg2), None);
+        let receives = Instruction::Recv(BufId(1), Target::One(Register::Reg2), None);
         assert_eq!(rt; boot.program(Tid(0)).instruction(0), receives);
         assert_eq!(rt; boot.program(Tid(1)).len(), 2);
     }

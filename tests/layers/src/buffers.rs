@@ -172,8 +172,8 @@ fn a_block_in_hand_is_told_by_its_part(rt: HostRuntime) -> Result<(), Fail> {
 fn a_thread_that_ends_has_ended(rt: HostRuntime) -> Result<(), Fail> {
     let mut m = Buffers::open(rt.alloc(), 2, &CAPS, &HOMES, 200)?;
     let mut home: Seat<Buffers> = seat(0);
-    let own = home.part.own_threads();
-    assert!(rt; own.is_ready(T0) && !own.has_ended(T0));
+    let local = home.part.own_threads();
+    assert!(rt; local.is_ready(T0) && !local.has_ended(T0));
     assert!(rt; passes(&mut home, &mut m, Pass::Switch, 1));
     assert!(rt; passes(&mut home, &mut m, Pass::End, 1));
     assert!(rt; home.part.own_threads().has_ended(T0));

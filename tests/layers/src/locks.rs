@@ -5,11 +5,11 @@ use crate::openings::{Opens, TICKET_POLLS, TicketSched};
 use condvar::Cond;
 use event_log::{BufId, CpuId, NoMemory, Tid};
 use layer_traits::{
-    BufferCall, CvEdit, CvLaw, CvLeave, CvOut, Guarded, Outcome, OwnedThreadLayer, Parcel, Pass,
-    Payload, QEdit, QLockLaw, QOut, Side, SleeperLaw, ThreadLayer, WaitList,
+    BufferCall, CvEdit, CvLaw, CvLeave, CvReply, Guarded, Outcome, OwnedThreadLayer, MessageSlot, Pass,
+    Payload, QLockCall, QLockLaw, QLockReply, Side, SleeperLaw, ThreadLayer, WaitList,
 };
 use plain_layers::{PlainKernel, PlainQEdit, PlainQLock, PlainSched, plain_locks};
-use queuing_lock::{QLock, QLockEdit, lock_blocks};
+use queuing_lock::{QLock, QLockSection, lock_blocks};
 use sleep_wakeup::{SleepEdit, Sleeper, sleep_blocks};
 use std::alloc::Global;
 use std::process::Abort;
@@ -26,25 +26,25 @@ impl Guarded for Reads {
 
     type Out = Tid;
 
-    type Handed = Reads;
+    type Request = Reads;
 
-    type Brought = Tid;
+    type Response = Tid;
 
     ghost monitor_rules = { tt };
 
-    ghost meant = { tt };
+    ghost abstract_call = { tt };
 
-    ghost told = { tt };
+    ghost abstract_answer = { tt };
 
     fn caller(reads: &Reads) -> Tid {
         reads.caller
     }
 
-    fn whole(reads: &Reads, _parcel: &Parcel) -> Reads {
+    fn whole(reads: &Reads, _message_slot: &MessageSlot) -> Reads {
         *reads
     }
 
-    fn apply_handed(_reads: &Reads, block: &mut Tid, _parcel: &mut Parcel) -> Tid {
+    fn apply_request(_reads: &Reads, block: &mut Tid, _message_slot: &mut MessageSlot) -> Tid {
         *block
     }
 
@@ -54,12 +54,12 @@ impl Guarded for Reads {
 }
 
 /// A call on a lock with conditions, as its layers take it, and as an edit.
-type Call = QEdit<CvEdit<Reads>, CvLeave>;
+type Call = QLockCall<CvEdit<Reads>, CvLeave>;
 
-type Calls = QLockEdit<CvEdit<Reads>, CvLeave>;
+type Calls = QLockSection<CvEdit<Reads>, CvLeave>;
 
 /// What a call answers.
-type Answer = Outcome<QOut<CvOut<Tid>>>;
+type Answer = Outcome<QLockReply<CvReply<Tid>>>;
 
 /// Queuing locks over a scheduler.
 type Locks<S> = QLock<Sleeper<Calls, S>>;
@@ -123,22 +123,22 @@ impl Locking for CvLaw<Reads> {}
 
 fn call_of(does: Does, t: Tid) -> Call {
     match does {
-        Does::Acquires => QEdit::Acquire(t),
-        Does::Reads => QEdit::Inside(CvEdit::Edit(Reads { caller: t })),
-        Does::Signals => QEdit::Inside(CvEdit::SignalFront(t, Side::Receivers)),
-        Does::Leaves => QEdit::Release(CvLeave::Leave(t)),
-        Does::Waits => QEdit::Release(CvLeave::Wait(t, Side::Receivers)),
+        Does::Acquires => QLockCall::Acquire(t),
+        Does::Reads => QLockCall::Inside(CvEdit::Edit(Reads { caller: t })),
+        Does::Signals => QLockCall::Inside(CvEdit::SignalFront(t, Side::Receivers)),
+        Does::Leaves => QLockCall::Release(CvLeave::Leave(t)),
+        Does::Waits => QLockCall::Release(CvLeave::Wait(t, Side::Receivers)),
     }
 }
 
 fn seen_of(answer: Answer) -> Seen {
     match answer.out {
-        QOut::Acquired => Seen::Acquired,
-        QOut::Did(CvOut::Did(read)) => Seen::Read(read),
-        QOut::Did(CvOut::Signalled(_, _)) => Seen::Signalled(answer.woke),
-        QOut::Released(CvOut::Left) => Seen::Left(answer.woke),
-        QOut::Released(CvOut::Waited(_)) => Seen::Waited,
-        QOut::Queued | QOut::Did(_) | QOut::Released(_) => Seen::Otherwise,
+        QLockReply::Acquired => Seen::Acquired,
+        QLockReply::Did(CvReply::Did(read)) => Seen::Read(read),
+        QLockReply::Did(CvReply::Signalled(_, _)) => Seen::Signalled(answer.woke),
+        QLockReply::Released(CvReply::Left) => Seen::Left(answer.woke),
+        QLockReply::Released(CvReply::Waited(_)) => Seen::Waited,
+        QLockReply::Queued | QLockReply::Did(_) | QLockReply::Released(_) => Seen::Otherwise,
     }
 }
 
@@ -287,8 +287,8 @@ fn is_told<L: Locking, Q: OwnedThreadLayer<L> + Drop>(
     polls: usize,
 ) {
     let mut zero: Seat<Q> = seat(rt, m, 0, polls);
-    let own = zero.part.own_threads();
-    assert!(rt; !own.is_ready(T0) && !own.has_ended(T0));
+    let local = zero.part.own_threads();
+    assert!(rt; !local.is_ready(T0) && !local.has_ended(T0));
     assert_eq!(rt; section(&mut zero, m, Does::Acquires), Seen::Acquired);
     assert_eq!(rt; section(&mut zero, m, Does::Reads), Seen::Read(T0));
     assert_eq!(rt; Q::block_in(m, B), Some(&T0));

@@ -2,7 +2,7 @@
 
 use event_log::{Kind, Msg, Tid};
 use fifo_buffer::*;
-use layer_traits::{Parcel, Side, Sleeps, Wake};
+use layer_traits::{MessageSlot, Side, Sleeps, Wake};
 use std::test::*;
 
 /// What a section is told.
@@ -20,7 +20,7 @@ enum Told {
 }
 
 /// The side that is owed a wake-up.
-fn owed(out: &MonitorOut) -> char {
+fn owed(out: &MonitorReply) -> char {
     match out.owed() {
         None => '-',
         Some(Side::Receivers) => 'r',
@@ -34,11 +34,11 @@ fn asks(buffer: &mut MonitorBlock, thread: u8, ask: MonitorAsk) -> Told {
         thread: Tid(thread),
         ask,
     };
-    let out = MonitorEdit::apply_handed(&edit, None, buffer, &mut Parcel::new());
+    let out = MonitorEdit::apply_request(&edit, None, buffer, &mut MessageSlot::new());
     match out {
-        MonitorOut::Refused(Side::Receivers) => Told::WaitsToReceive,
-        MonitorOut::Refused(Side::Senders) => Told::WaitsToSend,
-        MonitorOut::Acted(effect, _) => {
+        MonitorReply::Refused(Side::Receivers) => Told::WaitsToReceive,
+        MonitorReply::Refused(Side::Senders) => Told::WaitsToSend,
+        MonitorReply::Acted(effect, _) => {
             Told::Acts(
                 effect.kind,
                 effect.value.first(),
@@ -47,7 +47,7 @@ fn asks(buffer: &mut MonitorBlock, thread: u8, ask: MonitorAsk) -> Told {
                 owed(&out),
             )
         }
-        MonitorOut::Woke(woke, _) => {
+        MonitorReply::Woke(woke, _) => {
             let woken = match woke {
                 Wake::Nobody | Wake::FirstSleeper => None,
                 Wake::Receiver(t) | Wake::Sender(t) => Some(t),

@@ -3,7 +3,7 @@
 use crate::add_one::AddOne;
 use event_log::{BufId, CPUS, CpuId, LockId, NoMemory};
 use layer_traits::{GrantWords, Words};
-use plain_machine::{GrantLockWords, Granting, LineWords, LockWords, Plain, StoredWords};
+use plain_machine::{GrantLockWords, Granting, LockQueueWords, LockWords, Plain, StoredWords};
 use std::alloc::Global;
 use std::test::*;
 
@@ -12,7 +12,7 @@ const PENDING: LockId = LockId::Pending(CpuId(3));
 const BUFFER: LockId = LockId::Buffer(BufId(0));
 
 /// A machine with one lock, whose block is this number.
-fn machine<K: LineWords>(
+fn machine<K: LockQueueWords>(
     alloc: Global,
     lock: LockId,
     number: u64,

@@ -37,21 +37,21 @@ impl SplitEdit for Nap {
 
     type Out = (bool, Option<Tid>);
 
-    type Handed = Nap;
+    type Request = Nap;
 
-    type Brought = (bool, Option<Tid>);
+    type Response = (bool, Option<Tid>);
 
-    ghost rules = { tt };
+    ghost protocol = { tt };
 
-    ghost meant = { tt };
+    ghost abstract_call = { tt };
 
-    ghost told = { tt };
+    ghost abstract_answer = { tt };
 
     fn whole(nap: &Nap, _payload: &Payload) -> Nap {
         *nap
     }
 
-    fn apply_handed(
+    fn apply_request(
         nap: &Nap,
         block: &mut Option<Tid>,
         _payload: &mut Payload,
@@ -191,20 +191,20 @@ fn opened<S: Opens<Nap>>(
 
 /// Who runs on the seat's CPU.
 fn current<S: OwnedLayer<SchedLaw<Nap>>>(seat: &Seat<S>) -> Option<Tid> {
-    seat.part.own_here().current()
+    seat.part.local_here().current()
 }
 
 /// Who stands in its hand.
 fn hand<S: OwnedLayer<SchedLaw<Nap>>>(seat: &Seat<S>) -> Option<Tid> {
-    seat.part.own_here().hand()
+    seat.part.local_here().hand()
 }
 
 fn is_ready<S: OwnedLayer<SchedLaw<Nap>>>(seat: &Seat<S>, t: Tid) -> bool {
-    seat.part.own_here().is_ready(t)
+    seat.part.local_here().is_ready(t)
 }
 
 fn has_ended<S: OwnedLayer<SchedLaw<Nap>>>(seat: &Seat<S>, t: Tid) -> bool {
-    seat.part.own_here().has_ended(t)
+    seat.part.local_here().has_ended(t)
 }
 
 /// Two threads at home on one CPU take turns.
@@ -261,12 +261,12 @@ where
     assert_eq!(rt; polled(&mut home, &mut m, SWITCH), Seen::Done);
     assert_eq!(rt; current(&home), Some(T2));
     assert_eq!(rt; polled(&mut home, &mut m, END), Seen::Done);
-    assert!(rt; has_ended(&home, T2) && !home.part.own_here().has_ready());
+    assert!(rt; has_ended(&home, T2) && !home.part.local_here().has_ready());
     assert_eq!(rt; section(&mut home, &mut m, DRAIN), Seen::Done);
     assert!(rt; is_ready(&home, T0));
     assert_eq!(rt; polled(&mut home, &mut m, SWITCH), Seen::Done);
     assert_eq!(rt; current(&home), Some(T0));
-    assert!(rt; !home.part.own_here().has_ready() && !home.part.is_busy());
+    assert!(rt; !home.part.local_here().has_ready() && !home.part.is_busy());
     Ok(())
 }
 
@@ -365,7 +365,7 @@ fn two_drains_grant_the_third_place(rt: HostRuntime) -> Result<(), Fail> {
     all_end(&rt, &mut home, &mut m);
     for _ in 0..2 {
         assert_eq!(rt; section(&mut home, &mut m, DRAIN), Seen::Done);
-        assert!(rt; !home.part.own_here().has_ready());
+        assert!(rt; !home.part.local_here().has_ready());
     }
     let mut words = [0; CPUS];
     words[0] = 1;

@@ -3,7 +3,7 @@
 use crate::openings::{Opens, TICKET_POLLS, TicketSched};
 use event_log::{BufId, CpuId, NoMemory, Tid};
 use layer_traits::{
-    BufferCall, OwnedThreadLayer, Parcel, Pass, Payload, SleepLaw, Sleeps, ThreadLayer, WaitList,
+    BufferCall, OwnedThreadLayer, MessageSlot, Pass, Payload, SleepLaw, Sleeps, ThreadLayer, WaitList,
     Wake,
 };
 use plain_layers::PlainSched;
@@ -24,25 +24,25 @@ impl Sleeps for Nap {
 
     type Out = Nap;
 
-    type Handed = Nap;
+    type Request = Nap;
 
-    type Brought = Nap;
+    type Response = Nap;
 
-    ghost rules = { tt };
+    ghost protocol = { tt };
 
-    ghost meant = { tt };
+    ghost abstract_call = { tt };
 
-    ghost told = { tt };
+    ghost abstract_answer = { tt };
 
     fn caller(nap: &Nap) -> Tid {
         nap.caller
     }
 
-    fn whole(nap: &Nap, _parcel: &Parcel) -> Nap {
+    fn whole(nap: &Nap, _message_slot: &MessageSlot) -> Nap {
         *nap
     }
 
-    fn apply_handed(nap: &Nap, _first: Option<Tid>, _block: &mut u8, _parcel: &mut Parcel) -> Nap {
+    fn apply_request(nap: &Nap, _first: Option<Tid>, _block: &mut u8, _message_slot: &mut MessageSlot) -> Nap {
         *nap
     }
 

@@ -3,7 +3,7 @@
 use boot::Boot;
 use cpu_workers::{
     Gate, Go, Hints, OpenGate, Report, Stop, reports_are_lawful, reports_are_runs, run_workers,
-    stops_are_true, workers_lose_no_wake_up,
+    stop_reasons_hold, workers_lose_no_wake_up,
 };
 use event_log::{BufId, CpuId, Entry, Msg};
 use std::process::Abort;
@@ -322,8 +322,8 @@ fn a_machine_that_says_nothing_hints_at_no_draw(rt: HostRuntime) {
 fn each_law_of_workers_can_be_called(_rt: HostRuntime) {
     reports_are_lawful(&OpenGate);
     reports_are_runs(&OpenGate);
-    cpu_workers::actions_let_order_go_on();
-    cpu_workers::fronts_keep_order();
-    stops_are_true();
+    cpu_workers::actions_extend_order();
+    cpu_workers::prefixes_keep_order();
+    stop_reasons_hold();
     workers_lose_no_wake_up();
 }

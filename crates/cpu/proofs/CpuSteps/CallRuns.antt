@@ -5,15 +5,15 @@ use Rattle.std.proofs.{Common.{arith, vec_capacity}, lemmas.List.{append-nil, le
 use Rattle.layer_traits.specs.Layers.{BufferLaw.{Buffering, Answered, answer_in, begun_of, buffer_of, call_state_of}, IpcLaw.ipc_plan}
 use Rattle.layer_traits.specs.{Blocks.{Capacities.caps_in, QueueBlocks.homes_in}, declared.{call_layers.CallLayer.Ghosts, calls.{Call.Call, Effect.Effect}}}
 use Rattle.layer_traits.specs.{declared.{calls.{ReplyKind.ReplyKind, Reply.Reply}, call_states.CallState.CallState}, Threads.Places.one_if}
-use Rattle.layer_traits.specs.{Views.OwnParts.threads_in, Polling.{LayerPolls.{IsBegunAt, LookedAt, LookedOnAt, PolledAt, PolledOnAt}}}
-use Rattle.{layer_traits.specs.Polling.PollRuns.{LookedOn, PolledOn}, event_log.specs.declared.{entries.Entry.Entry, ids.{Tid.Tid}}}
+use Rattle.layer_traits.specs.{Views.OwnParts.threads_in, Polling.{LayerPolls.{IsBegunAt, LookedAt, LookedOnAt, PolledAt, PolledOnAt}, PollRuns.LookedOn}}
+use Rattle.{layer_traits.specs.Polling.PollRuns.PolledOn, event_log.specs.declared.{entries.Entry.Entry, ids.Tid.Tid}}
 use Rattle.{guest.specs.{declared.instructions.Instruction.Instruction, State.State}, cpu.specs.declared.cpus.{Choice.TheVariants.Polls, Cpu.Cpu}}
-use Rattle.cpu.specs.{declared.guests.{Guest.Guest, GuestStage.{GuestStage, TheVariants.Begun}, Todo.Todo}, Cpus.{IsCpu, begins_at, begun_count, chosen}}
-use Rattle.cpu.specs.Cpus.{chosen_at, chosen_by, chosen_for, GuestsWent, Replies, guest_calls, guests_rest, chosen_todo, fresh_at, guest_at, is_begun_guest}
-use Rattle.cpu.specs.{Cpus.{of_cpu, of_thread, programs_of, with_guest}, CpuSteps.{RunsAt, SteppedAt, stops_at}, Guests.{HasComeIn, entries_of, fresh_effect}}
-use Rattle.cpu.{specs.Guests.{had, is_begun, is_calling, polled, stage_after, todo_of}, proofs.CpuSteps.CallSteps.{PolledCpu, PollsAt, noted_call, poll_buffer}}
-use Rattle.cpu.proofs.CpuSteps.{CallSteps.{poll_call_states, poll_within, polls_at}, GuestsFollow.had_going, CpuRuns.one_run, CpuStates.valid_cpu}
-use Rattle.cpu.proofs.CpuSteps.{PassSteps.seen_stays, StepsBesideGuests.{called_grows, follows_grow, others_grow, others_same, tries_grow}}
+use Rattle.cpu.specs.{declared.guests.{Guest.Guest, GuestStage.{GuestStage, TheVariants.Begun}, NextAction.NextAction}, Cpus.{IsCpu, begins_at, begun_count}}
+use Rattle.cpu.specs.Cpus.{chosen, chosen_at, chosen_by, chosen_for, GuestsWent, Replies, guest_calls, guests_rest, chosen_todo, fresh_at, guest_at}
+use Rattle.cpu.specs.{Cpus.{is_begun_guest, of_cpu, of_thread, programs_of, with_guest}, CpuSteps.{RunsAt, SteppedAt, stops_at}, Guests.{HasComeIn, entries_of}}
+use Rattle.cpu.{specs.Guests.{fresh_effect, had, is_begun, is_calling, polled, stage_after, todo_of}, proofs.CpuSteps.CallSteps.{PolledCpu, PollsAt}}
+use Rattle.cpu.proofs.CpuSteps.{CallSteps.{noted_call, poll_buffer, poll_call_states, poll_within, polls_at}, GuestsFollow.had_going, CpuRuns.one_run}
+use Rattle.cpu.proofs.CpuSteps.{CpuStates.valid_cpu, PassSteps.seen_stays, StepsBesideGuests.{called_grows, follows_grow, others_grow, others_same, tries_grow}}
 use Rattle.cpu.proofs.OverLayer.CpuOverLayer.{IsLayered, PartLaws, layered, acts_for, left_framed, tabled_cpu, outset, runs_home}
 use Rattle.cpu.proofs.{ListFacts.{GuestLists.{at_same, count_with, guest_within, programs_with}, ListReads.set_twice}, StepTable.TablePolls.TabledPoll}
 use Rattle.cpu.proofs.StepTable.{TablePolls.{poll_tabled, poll_steps as poll_by_table}, TableCalls.{fifo_follows, hand_preserved, looked_steps}}
@@ -30,48 +30,48 @@ module _ {P L M : Type 0} {I : Ghosts P L M} (laws : PartLaws I) (m : M) (p : Cp
   look_steps n r looked number limit guests trace capacity = record {
     live = rw (looked.waits refl) refl;
     agrees = record {
-      fits = looked.framed.fits;
+      coupled = looked.framed.coupled;
       number = looked.framed.cpu ∙ cpu.number ∙ sym number;
-      is = rw (looked.framed.stays.opening, looked.own, looked.under_way, number, limit, guests)
-          (subst (λ (l : List Entry). IsCpu (homes_in (I.opening m)) (length (caps_in (I.opening m))) (I.seen n) (threads_in (I.own p.part))
-          (I.own p.part).call_states (I.under_way p.part) p.number p.guests.items l p.limit (vec_capacity r.trace)) (sym trace) (grind (
+      is = rw (looked.framed.stays.opening, looked.local, looked.under_way, number, limit, guests)
+          (subst (λ (l : List Entry). IsCpu (homes_in (I.opening m)) (length (caps_in (I.opening m))) (I.history n) (threads_in (I.local p.part))
+          (I.local p.part).call_states (I.under_way p.part) p.number p.guests.items l p.limit (vec_capacity r.trace)) (sym trace) (grind (
             arith,
-            seen_stays (valid_cpu cpu.is) (I.seen n)
-                (others_same (λ d. I.ActsFor m d) p.number (I.seen m) (I.seen n) looked.seen (acts_for cpu)),
+            seen_stays (valid_cpu cpu.is) (I.history n)
+                (others_same (λ d. I.ActsFor m d) p.number (I.history m) (I.history n) looked.history (acts_for cpu)),
             capacity,
           )));
-      table = λ step. rw (looked.own, looked.under_way, looked.framed.stays.opening, number, guests) (cpu.table step);
+      table = λ step. rw (looked.local, looked.under_way, looked.framed.stays.opening, number, guests) (cpu.table step);
     };
     leaves = left_framed I m n p r cpu.number number limit looked.framed (ap programs_of guests)
-        (guests_rest guests trace) (others_grow _ _ _ _ looked.seen) (rw cpu.number at looked.moves)
+        (guests_rest guests trace) (others_grow _ _ _ _ looked.history) (rw cpu.number at looked.moves)
         (λ step. rw (← cpu.number) (tries_grow _ _ _ _ (looked.tries step refl)));
     steps = λ step. rw (guests, trace) (looked_steps (λ d. I.ActsFor m d) (homes_in (I.opening m)) (caps_in (I.opening m)) (I.cpu_of p.part) p.number p.limit
-        (I.own p.part) (I.own r.part) p.guests.items p.trace.items (I.acts m) (I.acts n) cpu.number looked.own (looked.tries step refl));
+        (I.local p.part) (I.local r.part) p.guests.items p.trace.items (I.acts m) (I.acts n) cpu.number looked.local (looked.tries step refl));
   }
 
   -- a poll of the call of t that took the CPU to r, which recorded the result
-  module _ (live : stops_at I p ≡ None) (t : Tid) (call : Call) (chose : chosen (threads_in (I.own p.part)) p.guests.items ≡ Polls t call)
+  module _ (live : stops_at I p ≡ None) (t : Tid) (call : Call) (chose : chosen (threads_in (I.local p.part)) p.guests.items ≡ Polls t call)
       (free : begins_at (guest_at p.guests.items t.0) ≡ true → length p.trace.items + begun_count p.guests.items < p.limit)
       (n : M) (r : Cpu P M) (told : Option ReplyKind) (polled_so : PolledAt I ipc_plan t call p.part m r.part n told) (number : r.number ≡ p.number)
       (limit : r.limit ≡ p.limit)
       (guests_is : r.guests.items ≡ with_guest p.guests.items t.0
-      (λ g. polled g ((call_state_of (I.own r.part).call_states t).effect) (answer_in (I.own r.part).call_states t told)))
+      (λ g. polled g ((call_state_of (I.local r.part).call_states t).effect) (answer_in (I.local r.part).call_states t told)))
       (trace_is : r.trace.items ≡ p.trace.items
-      ++ entries_of p.number t (buffer_of call) (fresh_at (guest_at p.guests.items t.0) ((call_state_of (I.own r.part).call_states t).effect)))
+      ++ entries_of p.number t (buffer_of call) (fresh_at (guest_at p.guests.items t.0) ((call_state_of (I.local r.part).call_states t).effect)))
       (capacity_is : vec_capacity p.trace ≤ vec_capacity r.trace) where
     there : (buffer_of call).0 < length (caps_in (I.opening m))
     there = poll_buffer (valid_cpu cpu.is) t call chose
 
     abbrev polled_cpu : PolledCpu (λ d. I.ActsFor m d) (valid_cpu cpu.is) t call
     polled_cpu = record {
-      call_states = (I.own r.part).call_states;
-      seen = I.seen n;
-      own = threads_in (I.own r.part);
+      call_states = (I.local r.part).call_states;
+      history = I.history n;
+      local = threads_in (I.local r.part);
       under_way = I.under_way r.part;
       guests = r.guests.items;
       trace = r.trace.items;
       capacity = vec_capacity r.trace;
-      answer = answer_in (I.own r.part).call_states t told;
+      answer = answer_in (I.local r.part).call_states t told;
       acts = acts_for cpu;
       home = runs_home cpu t (polls_at (valid_cpu cpu.is) t call chose).runs;
       called = rw cpu.number at (polled_so.called there);
@@ -85,17 +85,17 @@ module _ {P L M : Type 0} {I : Ghosts P L M} (laws : PartLaws I) (m : M) (p : Cp
 
     abbrev tabled_poll : (step : I.IsStepwise) → TabledPoll (λ d. I.ActsFor m d) (tabled_cpu cpu step) t call (I.acts m)
     tabled_poll step = record {
-      own = I.own r.part;
+      local = I.local r.part;
       under_way = I.under_way r.part;
       guests = r.guests.items;
       trace = r.trace.items;
       new = I.acts n;
-      result = answer_in (I.own r.part).call_states t told;
-      known = hand_preserved (homes_in (I.opening m)) (homes_in (I.opening n)) (I.cpu_of r.part) (I.moves n) (threads_in (I.own r.part))
+      result = answer_in (I.local r.part).call_states t told;
+      known = hand_preserved (homes_in (I.opening m)) (homes_in (I.opening n)) (I.cpu_of r.part) (I.moves n) (threads_in (I.local r.part))
           (ap homes_in polled_so.framed.stays.opening)
-          (laws.stands r.part n polled_so.framed.fits) (laws.moves_legal n (I.cpu_of r.part) (laws.own_cpu r.part n polled_so.framed.fits));
+          (laws.stands r.part n polled_so.framed.coupled) (laws.moves_legal n (I.cpu_of r.part) (laws.own_cpu r.part n polled_so.framed.coupled));
       follows = fifo_follows (λ d. I.ActsFor m d) (I.opening m) (homes_in (I.opening m)) (length (caps_in (I.opening m))) (I.cpu_of p.part) p.number t call
-          (I.own p.part) (I.own r.part) (I.acts m) (I.acts n) (answer_in (I.own r.part).call_states t told) cpu.number there (polled_so.follows step);
+          (I.local p.part) (I.local r.part) (I.acts m) (I.acts n) (answer_in (I.local r.part).call_states t told) cpu.number there (polled_so.follows step);
       ended_is = (polled_so.runs there).ended;
       under_way_is = polled_so.under_way there;
       guests_is = guests_is;
@@ -106,17 +106,19 @@ module _ {P L M : Type 0} {I : Ghosts P L M} (laws : PartLaws I) (m : M) (p : Cp
     went : GuestsWent p.number p.guests.items p.trace.items r.guests.items r.trace.items
     went =
         let polls = polls_at (valid_cpu cpu.is) t call chose in
-        guest_calls t polls.guest call ((call_state_of (I.own r.part).call_states t).effect) (answer_in (I.own r.part).call_states t told) polls.at polls.asks
-        (replies_so call (call_state_of (I.own r.part).call_states t) (answer_in (I.own r.part).call_states t told) (polled_so.called there).answers) guests_is
+        guest_calls t polls.guest call ((call_state_of (I.local r.part).call_states t).effect) (answer_in (I.local r.part).call_states t told) polls.at
+        polls.asks
+        (replies_so call (call_state_of (I.local r.part).call_states t) (answer_in (I.local r.part).call_states t told) (polled_so.called there).answers)
+        guests_is
         (trace_is
         ∙ ap (λ (o : Option Guest). p.trace.items
-        ++ entries_of p.number t (buffer_of call) (fresh_at o ((call_state_of (I.own r.part).call_states t).effect))) polls.at)
+        ++ entries_of p.number t (buffer_of call) (fresh_at o ((call_state_of (I.local r.part).call_states t).effect))) polls.at)
 
     pub poll_steps : SteppedAt I m p n r
     poll_steps = record {
       live = live;
       agrees = record {
-        fits = polled_so.framed.fits;
+        coupled = polled_so.framed.coupled;
         number = polled_so.framed.cpu ∙ cpu.number ∙ sym number;
         is = rw (polled_so.framed.stays.opening, number, limit) (noted_call (valid_cpu cpu.is) t call chose _ polled_cpu);
         table = λ step.
@@ -160,11 +162,11 @@ looks_run {q = q} {r = r} {o = o} laws cpu ran (LookedOn.more {q = s} {n = n} lo
 
 -- the CPU is at the call of t
 module _ {P L M : Type 0} {I : Ghosts P L M} (laws : PartLaws I) (m : M) (p : Cpu P M) (cpu : IsLayered I m p) (live : stops_at I p ≡ None)
-    (t : Tid) (call : Call) (chose : chosen (threads_in (I.own p.part)) p.guests.items ≡ Polls t call)
+    (t : Tid) (call : Call) (chose : chosen (threads_in (I.local p.part)) p.guests.items ≡ Polls t call)
     (free : begins_at (guest_at p.guests.items t.0) ≡ true → length p.trace.items + begun_count p.guests.items < p.limit) where
   -- the effect that the call has had, as a part has it
   abbrev had_in : P → Option Effect
-  had_in q = (call_state_of (I.own q).call_states t).effect
+  had_in q = (call_state_of (I.local q).call_states t).effect
 
   -- the CPU after steps of the call that left it this part and returned nothing
   abbrev between : P → Cpu P M
@@ -179,19 +181,19 @@ module _ {P L M : Type 0} {I : Ghosts P L M} (laws : PartLaws I) (m : M) (p : Cp
     };
   }
 
-  polls : PollsAt (threads_in (I.own p.part)) p.guests.items t call
+  polls : PollsAt (threads_in (I.local p.part)) p.guests.items t call
   polls = polls_at (valid_cpu cpu.is) t call chose
 
   module _ (q : P) (quiet : IsBegunAt I ipc_plan t call p.part q) where
     guest_between : guest_at (between q).guests.items t.0 ≡ Some (polled polls.guest (had_in q) None)
     guest_between = at_same p.guests.items t.0 (λ g. polled g (had_in q) None) polls.guest polls.at
 
-    chose_between : chosen (threads_in (I.own q)) (between q).guests.items ≡ Polls t call
+    chose_between : chosen (threads_in (I.local q)) (between q).guests.items ≡ Polls t call
     chose_between =
-        ap (λ (c : Option Tid). chosen_at c (threads_in (I.own q)).hand (threads_in (I.own q)).ready (between q).guests.items) quiet.runs
-        ∙ (ap (λ (o : Option Guest). chosen_for t (threads_in (I.own q)).hand o) guest_between
-        ∙ (ap (λ (b : Bool). chosen_by t b (threads_in (I.own q)).hand (todo_of polls.guest)) (calling (had_in q))
-        ∙ ap (λ (todo : Todo). chosen_todo t todo) polls.asks))
+        ap (λ (c : Option Tid). chosen_at c (threads_in (I.local q)).hand (threads_in (I.local q)).ready (between q).guests.items) quiet.runs
+        ∙ (ap (λ (o : Option Guest). chosen_for t (threads_in (I.local q)).hand o) guest_between
+        ∙ (ap (λ (b : Bool). chosen_by t b (threads_in (I.local q)).hand (todo_of polls.guest)) (calling (had_in q))
+        ∙ ap (λ (todo : NextAction). chosen_todo t todo) polls.asks))
 
     begins_between : begins_at (guest_at (between q).guests.items t.0) ≡ false
     begins_between = ap begins_at guest_between ∙ ap not (calling (had_in q))
@@ -204,10 +206,10 @@ module _ {P L M : Type 0} {I : Ghosts P L M} (laws : PartLaws I) (m : M) (p : Cp
 
     fresh_same : (e : Option Effect) → fresh_at (guest_at p.guests.items t.0) e ≡ fresh_at (guest_at (between q).guests.items t.0) e
     fresh_same e =
-        let state = call_state_of (I.own p.part).call_states t in
+        let state = call_state_of (I.local p.part).call_states t in
         let left = quiet.effect ∙ had_going state call (poll_call_states (valid_cpu cpu.is) t call chose) in
         ap (λ (o : Option Guest). fresh_at o e) polls.at
-        ∙ (fresh_after polls.guest.stage polls.guest.program polls.guest.thread (of_thread t.0 (of_cpu p.number (I.seen m))) (begun_of state) state.effect
+        ∙ (fresh_after polls.guest.stage polls.guest.program polls.guest.thread (of_thread t.0 (of_cpu p.number (I.history m))) (begun_of state) state.effect
         (had_in q) e (cpu.is.follow t polls.guest polls.at).1 left
         ∙ sym (ap (λ (o : Option Guest). fresh_at o e) guest_between))
 
@@ -222,7 +224,7 @@ module _ {P L M : Type 0} {I : Ghosts P L M} (laws : PartLaws I) (m : M) (p : Cp
   -- result, are as many steps
   pub call_runs : {k : ℕ} {q : P} {n : M} {told : Option ReplyKind} → PolledOnAt I ipc_plan t call p.part m k q n told → (r : Cpu P M) → r.part ≡ q
       → r.number ≡ p.number → r.limit ≡ p.limit
-      → r.guests.items ≡ with_guest p.guests.items t.0 (λ g. polled g (had_in r.part) (answer_in (I.own r.part).call_states t told))
+      → r.guests.items ≡ with_guest p.guests.items t.0 (λ g. polled g (had_in r.part) (answer_in (I.local r.part).call_states t told))
       → r.trace.items ≡ p.trace.items ++ entries_of p.number t (buffer_of call) (fresh_at (guest_at p.guests.items t.0) (had_in r.part))
       → vec_capacity p.trace ≤ vec_capacity r.trace → RunsAt I m p k n r
   call_runs (PolledOn.once {n = n} {told = told} one) r part number limit guests trace capacity =
@@ -233,12 +235,12 @@ module _ {P L M : Type 0} {I : Ghosts P L M} (laws : PartLaws I) (m : M) (p : Cp
       RunsAt.then_step amid (poll_steps laws n (between q) (runs_layered laws cpu amid) (live_between q quiet) t call (chose_between q quiet)
       (free_between q quiet) o r
       told (subst (λ (x : P). PolledAt I ipc_plan t call q n x o told) (sym part) last) number limit
-      (guests ∙ guests_between q quiet (had_in r.part) (answer_in (I.own r.part).call_states t told))
+      (guests ∙ guests_between q quiet (had_in r.part) (answer_in (I.local r.part).call_states t told))
       (trace ∙ ap (λ (f : Option Effect). p.trace.items ++ entries_of p.number t (buffer_of call) f) (fresh_same q quiet (had_in r.part))) capacity)
   call_runs (PolledOn.looks {q = q} {n = n} {o = o} on quiet last) r part number limit guests trace capacity =
       let amid : RunsAt I m p _ n (between q) = call_runs on (between q) refl refl refl refl (trace_between q quiet) (omega arith) in
       let looked : LookedAt I ipc_plan true q n r.part o = subst (λ (x : P). LookedAt I ipc_plan true q n x o) (sym part) last in
-      let same : had_in r.part ≡ had_in q = ap (λ (own : Buffering). (call_state_of own.call_states t).effect) looked.own in
+      let same : had_in r.part ≡ had_in q = ap (λ (local : Buffering). (call_state_of local.call_states t).effect) looked.local in
       RunsAt.then_step amid (look_steps laws n (between q) (runs_layered laws cpu amid) o r looked number limit
       (guests ∙ ap (λ (e : Option Effect). with_guest p.guests.items t.0 (λ g. polled g e None)) same)
       (trace ∙ (ap (λ (e : Option Effect). p.trace.items ++ entries_of p.number t (buffer_of call) (fresh_at (guest_at p.guests.items t.0) e)) same

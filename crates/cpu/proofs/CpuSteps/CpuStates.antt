@@ -10,7 +10,7 @@ use Rattle.cpu.specs.{Tables.IsTabled, Tower.Views.{TowerBlock, TowerName}}
 pub record CpuState : Type 0 where
   pub homes : List CpuId
   pub buffers : ℕ
-  pub seen : List Entry
+  pub history : List Entry
   pub under_way : Option UnderWay
   pub number : CpuId
   pub guests : List (Option Guest)
@@ -23,19 +23,19 @@ pub record CpuState : Type 0 where
 pub record ValidCpu : Type 0 where
   pub state : CpuState
   pub open state use *
-  pub own : Threads
+  pub local : Threads
   pub call_states : List CallState
-  pub is : IsCpu homes buffers seen own call_states under_way number guests trace limit capacity
+  pub is : IsCpu homes buffers history local call_states under_way number guests trace limit capacity
 
 -- the CPU whose invariant this fact is
-abbrev pub valid_cpu : {homes : List CpuId} {buffers : ℕ} {seen : List Entry} {own : Threads} {call_states : List CallState} {under_way : Option UnderWay}
+abbrev pub valid_cpu : {homes : List CpuId} {buffers : ℕ} {history : List Entry} {local : Threads} {call_states : List CallState} {under_way : Option UnderWay}
     {number : CpuId} {guests : List (Option Guest)} {trace : List Entry} {limit capacity : ℕ}
-    → IsCpu homes buffers seen own call_states under_way number guests trace limit capacity → ValidCpu
-valid_cpu {homes} {buffers} {seen} {own} {call_states} {under_way} {number} {guests} {trace} {limit} {capacity} is = record {
+    → IsCpu homes buffers history local call_states under_way number guests trace limit capacity → ValidCpu
+valid_cpu {homes} {buffers} {history} {local} {call_states} {under_way} {number} {guests} {trace} {limit} {capacity} is = record {
   state = record {
     homes = homes;
     buffers = buffers;
-    seen = seen;
+    history = history;
     under_way = under_way;
     number = number;
     guests = guests;
@@ -43,7 +43,7 @@ valid_cpu {homes} {buffers} {seen} {own} {call_states} {under_way} {number} {gue
     limit = limit;
     capacity = capacity;
   };
-  own = own;
+  local = local;
   call_states = call_states;
   is = is;
 }
@@ -53,14 +53,14 @@ pub record TabledCpu : Type 0 where
   pub state : CpuState
   pub open state use *
   pub caps : List ℕ
-  pub own : Buffering
+  pub local : Buffering
   pub opening : LockId → Option TowerBlock
-  pub is : IsCpu homes buffers seen (threads_in own) own.call_states under_way number guests trace limit capacity
-  pub tabled : IsTabled homes caps number own under_way guests opening
-  pub home : (u : Tid) → (threads_in own).current ≡ Some u → home_of homes u ≡ Some number
+  pub is : IsCpu homes buffers history (threads_in local) local.call_states under_way number guests trace limit capacity
+  pub tabled : IsTabled homes caps number local under_way guests opening
+  pub home : (u : Tid) → (threads_in local).current ≡ Some u → home_of homes u ≡ Some number
 
 abbrev pub valid : TabledCpu → ValidCpu
-valid cpu = record { state = cpu.state; own = threads_in cpu.own; call_states = cpu.own.call_states; is = cpu.is }
+valid cpu = record { state = cpu.state; local = threads_in cpu.local; call_states = cpu.local.call_states; is = cpu.is }
 
 -- the machine's holder acts for a CPU, of whose part it is known whether a section is under way and
 -- that the thread in its hand has a home
@@ -69,4 +69,4 @@ pub record Outset (ActsFor : CpuId → Type 0) (cpu : TabledCpu) (old : List (Ac
   pub acts : ActsFor cpu.number
   pub idle : cpu.under_way ≡ None → inside ≡ false
   pub busy : inside ≡ is_in_section (phase cpu.number old)
-  pub known : (u : Tid) → (threads_in cpu.own).hand ≡ Some u → IsSome (slice_get cpu.homes u.0)
+  pub known : (u : Tid) → (threads_in cpu.local).hand ≡ Some u → IsSome (slice_get cpu.homes u.0)

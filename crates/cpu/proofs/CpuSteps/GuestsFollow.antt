@@ -1,12 +1,12 @@
 -- How a guest follows its entries over one poll of its call.
 use Rattle.std.proofs.Common.{◌≡◌, ◌⊎◌, ℕ, List, ◌∷◌, ◌++◌, Option, Some, None, refl, ap, sym, ◌∙◌, subst, arith}
 use Rattle.event_log.specs.{declared.{entries.{Entry.Entry, Kind.Kind}, ids.{BufId.BufId, CpuId.CpuId, Tid.Tid}}, Messages.Message, Runs.{Closes, Receives}}
-use Rattle.{event_log.specs.Runs.{Sends, group_of}, guest.specs.{declared.instructions.{Instruction.Instruction, Into.Into, Source.Source}, State.State}}
+use Rattle.{event_log.specs.Runs.{Sends, group_of}, guest.specs.{declared.instructions.{Instruction.Instruction, Target.Target, Source.Source}, State.State}}
 use Rattle.guest.specs.{State.{moved_on, next_of, message_from}, Calls.{IsProgramsCalls, asks_in_vain, closes, offers, receives, sends}}
 use Rattle.layer_traits.specs.declared.{calls.{Call.{Call, TheVariants.{Send, Recv, Close}}, Effect.Effect, Reply.Reply}, call_states.CallState.CallState}
 use Rattle.layer_traits.specs.Layers.BufferLaw.{Answered, IsEffectOf, MayPollCall, begun_at, begun_of, buffer_of, entry_of, going, reply_by, reply_of}
-use Rattle.cpu.specs.{declared.guests.{GuestStage.{GuestStage, TheVariants.{Idle, Begun, Done, Ended}}, Todo.TheVariants.Calls}, Guests.{HasComeIn, IsSettled}}
-use Rattle.cpu.specs.Guests.{after_answer, state_after_effect, after_received, after_sent, entries_of, fresh_effect, had, stage_after, todo_at}
+use Rattle.cpu.specs.{declared.guests.{GuestStage.{GuestStage, TheVariants.{Idle, Begun, Done, Ended}}, NextAction.TheVariants.Calls}, Guests.HasComeIn}
+use Rattle.cpu.specs.Guests.{IsSettled, after_answer, state_after_effect, after_received, after_sent, entries_of, fresh_effect, had, stage_after, todo_at}
 use Rattle.event_log.specs.declared.entries.Kind.TheVariants as kind
 use Rattle.guest.specs.declared.instructions.Instruction.TheVariants as ins
 
@@ -38,7 +38,7 @@ sent_state : (of : Kind) (k : Option ℕ) (value : Message) (d b : BufId) (m : M
     → after_sent of k s ≡ after_answer (Some (reply_by (Send d m) of value)) (ins.Send b from k) s
 sent_state of k value d b m from s = grind arith
 
-received_state : (of : Kind) (k : Option ℕ) (value : Message) (d b : BufId) (into : Into) (s : State)
+received_state : (of : Kind) (k : Option ℕ) (value : Message) (d b : BufId) (into : Target) (s : State)
     → after_received of into k value s ≡ after_answer (Some (reply_by (Recv d) of value)) (ins.Recv b into k) s
 received_state of k value d b into s = grind arith
 
@@ -52,7 +52,7 @@ module _ (program : List Instruction) (es : List Entry) (s : State) (b : BufId) 
   sent_more from k at value line is group = absurd (cc group)
 
   -- and so with receives, and with closes
-  received_more : (into : Into) (k : Option ℕ) → next_of program s ≡ ins.Recv b into k → (of : Kind) → e.kind ≡ of → group_of of ≡ Receives
+  received_more : (into : Target) (k : Option ℕ) → next_of program s ≡ ins.Recv b into k → (of : Kind) → e.kind ≡ of → group_of of ≡ Receives
       → IsProgramsCalls program (e ∷ es) (after_received of into k e.value s)
   received_more into k at kind.Recv is group = receives b into k e calls at is buffer
   received_more into k at kind.RecvClosed is group = asks_in_vain b into k e calls at is buffer

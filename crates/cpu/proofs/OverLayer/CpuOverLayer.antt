@@ -17,7 +17,7 @@ use mir.Syntax.{Dict}
 pub record IsLayered {P L M : Type 0} (I : Ghosts P L M) (m : M) (p : Cpu P M) : Type 0 where
   pub number : I.cpu_of p.part ≡ p.number
   pub acts : I.ActsFor m (I.cpu_of p.part)
-  pub stands : Stands (homes_in (I.opening m)) (I.cpu_of p.part) (I.moves m) (threads_in (I.own p.part))
+  pub stands : Stands (homes_in (I.opening m)) (I.cpu_of p.part) (I.moves m) (threads_in (I.local p.part))
   pub moves_legal : AreMoves (homes_in (I.opening m)) (I.moves m)
   pub is : IsCpuAt I m p
   pub idle : I.under_way p.part ≡ None → I.is_inside p.part ≡ false
@@ -26,11 +26,11 @@ pub record IsLayered {P L M : Type 0} (I : Ghosts P L M) (m : M) (p : Cpu P M) :
 
 -- the laws of a layer that say so
 pub record PartLaws {P L M : Type 0} (I : Ghosts P L M) : Type 0 where
-  pub own_cpu : (p : P) (m : M) → I.Fits p m → I.ActsFor m (I.cpu_of p)
-  pub stands : (p : P) (m : M) → I.Fits p m → Stands (homes_in (I.opening m)) (I.cpu_of p) (I.moves m) (threads_in (I.own p))
+  pub own_cpu : (p : P) (m : M) → I.Coupled p m → I.ActsFor m (I.cpu_of p)
+  pub stands : (p : P) (m : M) → I.Coupled p m → Stands (homes_in (I.opening m)) (I.cpu_of p) (I.moves m) (threads_in (I.local p))
   pub moves_legal : (m : M) (c : CpuId) → I.ActsFor m c → AreMoves (homes_in (I.opening m)) (I.moves m)
-  pub idle : (p : P) (m : M) → I.Fits p m → I.under_way p ≡ None → I.is_inside p ≡ false
-  pub busy : (p : P) (m : M) → I.Fits p m → I.IsStepwise → I.is_inside p ≡ is_in_section (phase (I.cpu_of p) (I.acts m))
+  pub idle : (p : P) (m : M) → I.Coupled p m → I.under_way p ≡ None → I.is_inside p ≡ false
+  pub busy : (p : P) (m : M) → I.Coupled p m → I.IsStepwise → I.is_inside p ≡ is_in_section (phase (I.cpu_of p) (I.acts m))
 
 -- from all that a bound by the layer's trait gives
 pub laws_of : {world : World} {Part Law Machine : RattleType} {I : Ghosts Part.Denot Law.Denot Machine.Denot} {dict : Dict} {calls : LawGhosts Law.Denot}
@@ -43,11 +43,11 @@ layered {I} laws m p agrees = grind (arith, agrees)
 
 module _ {P L M : Type 0} {I : Ghosts P L M} {m : M} {p : Cpu P M} (at : IsLayered I m p) where
   -- a running thread has this home CPU
-  pub runs_home : (t : Tid) → (threads_in (I.own p.part)).current ≡ Some t → home_of (homes_in (I.opening m)) t ≡ Some p.number
+  pub runs_home : (t : Tid) → (threads_in (I.local p.part)).current ≡ Some t → home_of (homes_in (I.opening m)) t ≡ Some p.number
   runs_home t runs = grind (arith, current_at)
 
   -- and has a place in the table of guests
-  pub runs_within : (t : Tid) → (threads_in (I.own p.part)).current ≡ Some t → t.0 < length p.guests.items
+  pub runs_within : (t : Tid) → (threads_in (I.local p.part)).current ≡ Some t → t.0 < length p.guests.items
   runs_within = current_within (valid_cpu at.is) runs_home
 
   -- the machine's holder acts for it
@@ -59,7 +59,7 @@ module _ {P L M : Type 0} {I : Ghosts P L M} {m : M} {p : Cpu P M} (at : IsLayer
     tabled_cpu = record {
       state = (valid_cpu at.is).state;
       caps = caps_in (I.opening m);
-      own = I.own p.part;
+      local = I.local p.part;
       opening = I.opening m;
       is = at.is;
       tabled = at.table step;
@@ -72,7 +72,7 @@ module _ {P L M : Type 0} {I : Ghosts P L M} {m : M} {p : Cpu P M} (at : IsLayer
       acts = acts_for;
       idle = at.idle;
       busy = rw at.number at (at.busy step);
-      known = hand_known (homes_in (I.opening m)) (I.cpu_of p.part) (I.moves m) (threads_in (I.own p.part)) at.stands at.moves_legal;
+      known = hand_known (homes_in (I.opening m)) (I.cpu_of p.part) (I.moves m) (threads_in (I.local p.part)) at.stands at.moves_legal;
     }
 
 -- a step that touches neither the machine nor the CPU's part
@@ -85,35 +85,35 @@ left_alone I m p q at number limit part programs guests = record {
   cpu = ap I.cpu_of part ∙ at;
   programs = programs;
   guests = guests;
-  seen = none_seen _ _ _ _ refl;
+  history = none_seen _ _ _ _ refl;
   moves = none_moved _ _ _ _ refl;
   grows = λ step. none_grow _ _ _ _ refl;
   opening = refl;
-  site = refl;
+  machine_id = refl;
   room = omega arith;
   acts = λ c acts. acts;
-  others = λ other apart fits. fits;
+  others = λ other apart coupled. coupled;
   holders = λ c apart acts holds. holds;
 }
 
 -- a step of the CPU's part
 pub left_framed : {P L M : Type 0} (I : Ghosts P L M) (m n : M) (p q : Cpu P M) → I.cpu_of p.part ≡ p.number → q.number ≡ p.number → q.limit ≡ p.limit
-    → Framed I.Fits I.cpu_of I.opening I.site I.room I.ActsFor I.MayHold p.part q.part m n → programs_of q.guests.items ≡ programs_of p.guests.items
-    → GuestsWent p.number p.guests.items p.trace.items q.guests.items q.trace.items → SeenGrows (I.ActsFor m) p.number (I.seen m) (I.seen n)
+    → Framed I.Coupled I.cpu_of I.opening I.machine_id I.room I.ActsFor I.MayHold p.part q.part m n → programs_of q.guests.items ≡ programs_of p.guests.items
+    → GuestsWent p.number p.guests.items p.trace.items q.guests.items q.trace.items → SeenGrows (I.ActsFor m) p.number (I.history m) (I.history n)
     → MovesGrow (I.ActsFor m) p.number (I.moves m) (I.moves n) → (I.IsStepwise → ActsGrow (I.ActsFor m) p.number (I.acts m) (I.acts n)) → Leaves I m p n q
-left_framed I m n p q at number limit framed programs guests seen moves grows = record {
+left_framed I m n p q at number limit framed programs guests history moves grows = record {
   number = number;
   limit = limit;
   cpu = framed.cpu ∙ at;
   programs = programs;
   guests = guests;
-  seen = seen;
+  history = history;
   moves = moves;
   grows = grows;
   opening = framed.stays.opening;
-  site = framed.stays.site;
+  machine_id = framed.stays.machine_id;
   room = framed.stays.room;
   acts = framed.stays.acts;
-  others = λ part apart fits. framed.others part (rw at apart) fits;
+  others = λ part apart coupled. framed.others part (rw at apart) coupled;
   holders = λ d apart acts holds. framed.holders d (rw at apart) acts holds;
 }

@@ -4,7 +4,7 @@ use Rattle.std.proofs.Common.{◌≤◌, List, [], ◌∷◌, ◌++◌, length, 
 use Rattle.std.specs.Prelude.{slice_get, Option}
 use Rattle.{event_log.specs.declared.ids.{BufId.BufId, CpuId.CpuId, Tid.Tid}, layer_traits.specs.Threads.OnePlace.cpu_at}
 use Rattle.layer_traits.specs.{declared.{call_layers.CallLayer.Ghosts, steps.Step.TheVariants.Stepped}, Polling.Spins.{Misses, Spun}}
-use Rattle.cpu.specs.{declared.cpus.Cpu.Cpu, Claims.{CpuShown, Shown}, CpuSteps.{RunsAt, SteppedAt}, Cpus.{GuestsWent, SeenGrows}, Linear.CallsGoOn}
+use Rattle.cpu.specs.{declared.cpus.Cpu.Cpu, Claims.{CpuView, SystemView}, CpuSteps.{RunsAt, SteppedAt}, Cpus.{GuestsWent, SeenGrows}, Linear.CallsGoOn}
 use Rattle.cpu.{specs.{Linear.OrderGrows, Systems.{SteppedByTable, reason_of, own_reason}}, proofs.WholeSystems.{InvariantOverSteps.Holds, Moments.MachineLaws}}
 use Rattle.cpu.proofs.{WholeSystems.Moments.{moment, order_grows}, ListFacts.ListReads.{set_again, set_else, set_there, set_twice, shows_at}}
 use Rattle.cpu.proofs.{StepTable.{ReachedSystems.shown_in, Schedules.{Leads, leads_alone, leads_live, leads_nowhere}}, OverLayer.SystemOverLayer.by_table}
@@ -12,46 +12,46 @@ use Rattle.cpu.proofs.OverLayer.{SystemOverLayer.{observed_by, plan_preserved, s
 
 module _ {P L M : Type 0} (I : Ghosts P L M) (laws : MachineLaws I) (owner : M → BufId → Option Tid) (threads room k : ℕ) (c : CpuId) (same : k ≡ c.0) where
   -- a system with this machine and these CPUs, after so many steps
-  abbrev pub shows : M → List (Cpu P M) → ℕ → Shown
+  abbrev pub shows : M → List (Cpu P M) → ℕ → SystemView
   shows o cpus done = shown_in (observed_by I owner o) (map (shown_by I) cpus) room done
 
   -- CPU c, at number k, took a step
   module _ (m n : M) (cpus : List (Cpu P M)) (taken : ℕ) (x y : Cpu P M) (is : Holds (works_by I owner threads) m cpus room taken)
       (at : slice_get cpus k ≡ Some x) (live : taken < room) (step : SteppedAt I m x n y) where
     acts : I.ActsFor n (I.cpu_of y.part)
-    acts = laws.own_cpu y.part n step.agrees.fits
+    acts = laws.own_cpu y.part n step.agrees.coupled
 
     keeps_one : Holds (works_by I owner threads) n (slice_set cpus k y) room (taken + 1)
     keeps_one =
-        went_on I owner threads m n cpus room taken k c x y is at same step.leaves live (laws.legal n (I.cpu_of y.part) acts) step.steps step.agrees.fits
+        went_on I owner threads m n cpus room taken k c x y is at same step.leaves live (laws.legal n (I.cpu_of y.part) acts) step.steps step.agrees.coupled
         step.agrees.is step.agrees.table (laws.known n (I.cpu_of y.part) acts)
 
     pub by_one : I.IsStepwise → SteppedByTable c (shows m cpus taken) (shows n (slice_set cpus k y) (taken + 1)) Stepped
     by_one = by_table I owner threads m n cpus room taken k c x y is at same step.leaves live (laws.legal n (I.cpu_of y.part) acts) step.steps
 
     -- the order grows by at most one call, of this CPU
-    pub grows_one : OrderGrows c (reverse (I.seen m)) (reverse (I.seen n))
+    pub grows_one : OrderGrows c (reverse (I.history m)) (reverse (I.history n))
     grows_one =
         let number : x.number ≡ c = (is.each k x at).number_is ∙ ap (λ (j : ℕ). cpu_at j) same in
-        order_grows (λ d. I.ActsFor m d) c (I.seen m) (I.seen n) is.acts_for (laws.known n (I.cpu_of y.part) acts)
-        (subst (λ (d : CpuId). SeenGrows (λ a. I.ActsFor m a) d (I.seen m) (I.seen n)) number step.leaves.seen)
+        order_grows (λ d. I.ActsFor m d) c (I.history m) (I.history n) is.acts_for (laws.known n (I.cpu_of y.part) acts)
+        (subst (λ (d : CpuId). SeenGrows (λ a. I.ActsFor m a) d (I.history m) (I.history n)) number step.leaves.history)
 
     -- the order of calls grows
     pub calls_one : CallsGoOn c (shows m cpus taken) (shows n (slice_set cpus k y) (taken + 1))
     calls_one = record {
       order = grows_one;
-      own = λ p q at_p at_q.
+      local = λ p q at_p at_q.
           let number : x.number ≡ c = (is.each k x at).number_is ∙ ap (λ (j : ℕ). cpu_at j) same in
           let was : shown_by I x ≡ p = grind (arith, same_Some, shows_at) in
           let there : slice_get (slice_set cpus k y) k ≡ Some y = set_there cpus k y (slice_get_within cpus k x at) in
           let now : shown_by I y ≡ q = grind (arith, same_Some, shows_at) in
           subst (λ (d : CpuId). GuestsWent d p.guests p.trace q.guests q.trace) number
-          (subst (λ (z : CpuShown). GuestsWent x.number p.guests p.trace z.guests z.trace) now
-          (subst (λ (z : CpuShown). GuestsWent x.number z.guests z.trace y.guests.items y.trace.items) was step.leaves.guests));
+          (subst (λ (z : CpuView). GuestsWent x.number p.guests p.trace z.guests z.trace) now
+          (subst (λ (z : CpuView). GuestsWent x.number z.guests z.trace y.guests.items y.trace.items) was step.leaves.guests));
       others = grind (arith, slice_get-map, set_else);
     }
 
-    leads_one : (s : Shown) (schedule : List CpuId) → Leads I.IsStepwise s schedule (shows m cpus taken)
+    leads_one : (s : SystemView) (schedule : List CpuId) → Leads I.IsStepwise s schedule (shows m cpus taken)
         → Leads I.IsStepwise s (schedule ++ c ∷ []) (shows n (slice_set cpus k y) (taken + 1))
     leads_one s schedule before =
         let there = subst (λ (j : ℕ). slice_get (map (shown_by I) cpus) j ≡ Some (shown_by I x)) same (shows_at (shown_by I) cpus k x at) in
@@ -94,7 +94,8 @@ module _ {P L M : Type 0} (I : Ghosts P L M) (laws : MachineLaws I) (owner : M �
 
   -- and then it polled the lock so often, and each poll failed
   pub spun_so : {m n o : M} {y : Cpu P M} {cpus : List (Cpu P M)} {taken steps looks : ℕ} → k < length cpus → WentSo m cpus taken steps n y
-      → Spun I.Fits I.opening I.site I.seen I.room I.ActsFor I.MayHold looks n o → (I.IsStepwise → Misses (I.cpu_of y.part) looks (I.acts n) (I.acts o))
+      → Spun I.Coupled I.opening I.machine_id I.history I.room I.ActsFor I.MayHold looks n o
+      → (I.IsStepwise → Misses (I.cpu_of y.part) looks (I.acts n) (I.acts o))
       → (looks ≡ 0 → o ≡ n) → (0 < looks → own_reason (shown_by I y) ≡ None) → taken + (steps + looks) ≤ room → WentSo m cpus taken (steps + looks) o y
   spun_so {m} {n} {o} {y} {cpus} {taken} {steps} {looks} inside went spun tries still live space =
       let amid = slice_set cpus k y in

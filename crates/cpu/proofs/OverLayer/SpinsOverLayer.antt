@@ -4,8 +4,8 @@ use Rattle.std.{proofs.{Common.{sym, ◌∙◌, subst, arith}, lemmas.{Bool.ne_e
 use Rattle.layer_traits.specs.{Blocks.{Capacities.caps_in, QueueBlocks.homes_in}, declared.call_layers.CallLayer.Ghosts, Threads.OnePlace.cpu_at}
 use Rattle.{layer_traits.specs.Polling.Spins.{Misses, Spun}, event_log.specs.declared.{entries.Entry.Entry, ids.{BufId.BufId, CpuId.CpuId, LockId.LockId}}}
 use Rattle.event_log.{specs.{declared.ids.Tid.Tid, Actions.{Action, Try, AreLegal, cpu_of_action, phase}, History.AreOthers}, proofs.Foreign.phase_others}
-use Rattle.{event_log.proofs.Renaming.legal_renamed, cpu.specs.{declared.cpus.Cpu.Cpu, Claims.{IsMoment, Shown}, Systems.own_reason, Tower.Composed.named}}
-use Rattle.cpu.{specs.Tower.Views.{TowerName, name_of}, proofs.WholeSystems.{InvariantOverSteps.Holds, Moments.{MachineLaws, moment}}}
+use Rattle.{event_log.proofs.Renaming.legal_renamed, cpu.specs.{declared.cpus.Cpu.Cpu, Claims.{IsRunState, SystemView}, Systems.own_reason}}
+use Rattle.cpu.{specs.Tower.{Composed.named, Views.{TowerName, name_of}}, proofs.WholeSystems.{InvariantOverSteps.Holds, Moments.{MachineLaws, moment}}}
 use Rattle.cpu.proofs.{ListFacts.ListReads.shows_at, StepTable.{MissedLooks.misses_lead, ReachedSystems.shown_in, Schedules.{Leads, leads_nowhere}}}
 use Rattle.cpu.proofs.{StepTable.Schedules.reached_alone, OverLayer.SystemOverLayer.{observed_by, shown_by, works_by}}
 
@@ -23,13 +23,13 @@ misses_of N (suc looks) c d lock other = (ne_eqb c.0 d.0 other, misses_of N look
 module _ {P L M : Type 0} (I : Ghosts P L M) (laws : MachineLaws I) (owner : M → BufId → Option Tid) (threads : ℕ) (m n : M) (cpus : List (Cpu P M))
     (room taken : ℕ) where
   -- the system with one of the machines, after so many steps
-  abbrev shows : M → ℕ → Shown
+  abbrev shows : M → ℕ → SystemView
   shows o done = shown_in (observed_by I owner o) (map (shown_by I) cpus) room done
 
   -- CPU c, at number k, has a section under way, and so many polls by its part x took the machine
   -- from m to n
   module _ (k looks : ℕ) (c : CpuId) (x : Cpu P M) (is : Holds (works_by I owner threads) m cpus room taken) (at : slice_get cpus k ≡ Some x) (same : k ≡ c.0)
-      (spun : Spun I.Fits I.opening I.site I.seen I.room I.ActsFor I.MayHold looks m n)
+      (spun : Spun I.Coupled I.opening I.machine_id I.history I.room I.ActsFor I.MayHold looks m n)
       (tries : I.IsStepwise → Misses (I.cpu_of x.part) looks (I.acts m) (I.acts n)) (still : looks ≡ 0 → n ≡ m)
       (live : 0 < looks → own_reason (shown_by I x) ≡ None) (space : taken + looks ≤ room) where
     legal : AreLegal (I.acts n)
@@ -38,11 +38,11 @@ module _ {P L M : Type 0} (I : Ghosts P L M) (laws : MachineLaws I) (owner : M �
     number : I.cpu_of x.part ≡ c
     number = (is.each k x at).holds.1 ∙ (is.each k x at).number_is ∙ ap (λ (j : ℕ). cpu_at j) same
 
-    before : IsMoment (shows m taken)
+    before : IsRunState (shows m taken)
     before = moment I laws owner threads m cpus room taken is
 
     -- no call takes effect
-    after : IsMoment (shows n (taken + looks))
+    after : IsRunState (shows n (taken + looks))
     after = grind (arith, before)
 
     -- the polls are steps of the schedule
@@ -66,7 +66,7 @@ module _ {P L M : Type 0} (I : Ghosts P L M) (laws : MachineLaws I) (owner : M �
               used = space;
               tries = grind (arith, named_misses, number);
               legal = legal_renamed name_of (I.acts n) legal;
-              order = ap (λ (l : List Entry). reverse l) spun.seen;
+              order = ap (λ (l : List Entry). reverse l) spun.history;
               before = before;
               now = after;
             })
@@ -84,16 +84,16 @@ module _ {P L M : Type 0} (I : Ghosts P L M) (laws : MachineLaws I) (owner : M �
       most = is.most;
       crowd = rw spun.opening is.crowd;
       acts_for = λ d exists. spun.acts d (is.acts_for d exists);
-      known = rw spun.seen is.known;
+      known = rw spun.history is.known;
       within = rw spun.opening is.within;
       rest = λ step d past exists.
           let missed = tries step in
           let apart : (I.cpu_of x.part).0 ≢ d.0 =
-          λ e. let own : (I.cpu_of x.part).0 ≡ c.0 = ap (λ (b : CpuId). b.0) number in omega (arith, e, own, same, past, inside) in
+          λ e. let local : (I.cpu_of x.part).0 ≡ c.0 = ap (λ (b : CpuId). b.0) number in omega (arith, e, local, same, past, inside) in
           ap (λ l. phase d l) missed.grows ∙ phase_others d (replicate looks (Try (I.cpu_of x.part) missed.lock false)) (I.acts m)
           (misses_of TowerName looks (I.cpu_of x.part) d missed.lock apart) ∙ is.rest step d past exists;
       holders = λ d past exists holds. is.holders d past exists (spun.holders d holds);
-      short = let short = is.short in let seen = ap (λ l. length l) spun.seen in omega (arith, short, seen);
+      short = let short = is.short in let history = ap (λ l. length l) spun.history in omega (arith, short, history);
       used = space;
       small = is.small;
       enough = let enough = is.enough in let left = spun.room in omega (arith, enough, left);

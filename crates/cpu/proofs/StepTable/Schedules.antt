@@ -3,19 +3,19 @@ use Rattle.std.proofs.Common.{◌≡◌, ℕ, zero, suc, ◌+◌, ◌-◌, ◌<�
 use Rattle.std.proofs.{Common.{refl, ap, sym, ◌∙◌, subst, append_assoc, arith}, Math.Seq.take-add, lemmas.List.{append-nil, replicate-append-replicate}}
 use Rattle.std.{proofs.lemmas.List.{take-replicate, take-take, take_rest}, specs.Prelude.slice_index_or}
 use Rattle.{event_log.specs.declared.ids.CpuId.CpuId, layer_traits.specs.declared.steps.{Reason.Reason, Step.{Step, TheVariants.{Halted, Stepped}}}}
-use Rattle.{layer_traits.specs.Polling.Spins.BeginWith, cpu.specs.{Claims.{IsMoment, Shown}, Linear.CallsGoOn, Sound.{IsReachedByTable, RanByTable}}}
+use Rattle.{layer_traits.specs.Polling.Spins.BeginWith, cpu.specs.{Claims.{IsRunState, SystemView}, Linear.CallsGoOn, Sound.{IsReachedByTable, RanByTable}}}
 use Rattle.cpu.specs.{Sound.after_steps, Systems.{Ran, SamePlan, SteppedByTable, HaltsByTable, WentOn, goes, halted_in, reason_of, took_none, stayed, took}}
-use Rattle.cpu.{specs.{Systems.whole_of, Table.{Setups.Setup, Steps.{IsReached, Whole, steps_once, system_step}}}, proofs.StepTable.ReachedSystems.after_more}
-use Rattle.cpu.proofs.StepTable.{ReachedSystems.{goes_on, setup_on}, TableHalts.reasons_step}
+use Rattle.cpu.specs.{Systems.whole_of, Table.{Setups.SystemConfig, Steps.{IsReached, SystemState, steps_once, system_step}}}
+use Rattle.cpu.proofs.StepTable.{ReachedSystems.{after_more, goes_on, setup_on}, TableHalts.reasons_step}
 
 -- the steps of these CPUs lead from s to r
-pub record Leads (IsStepwise : Type 0) (s : Shown) (schedule : List CpuId) (r : Shown) : Type 0 where
+pub record Leads (IsStepwise : Type 0) (s : SystemView) (schedule : List CpuId) (r : SystemView) : Type 0 where
   pub plan : SamePlan s r
   pub ran : Ran IsStepwise s schedule r
   pub table : IsStepwise → RanByTable s schedule r
 
 -- no step leads to the system itself
-pub leads_nowhere : (IsStepwise : Type 0) (s : Shown) → Leads IsStepwise s [] s
+pub leads_nowhere : (IsStepwise : Type 0) (s : SystemView) → Leads IsStepwise s [] s
 leads_nowhere IsStepwise s = record {
   plan = record { caps = refl; homes = refl; programs = refl; count = refl; limits = refl; room = refl };
   ran = took_none;
@@ -23,7 +23,7 @@ leads_nowhere IsStepwise s = record {
 }
 
 -- a step more, taken or not
-pub leads_more : (IsStepwise : Type 0) (s r t : Shown) (schedule : List CpuId) (c : CpuId) (answer : Step) → Leads IsStepwise s schedule r → SamePlan r t
+pub leads_more : (IsStepwise : Type 0) (s r t : SystemView) (schedule : List CpuId) (c : CpuId) (answer : Step) → Leads IsStepwise s schedule r → SamePlan r t
     → WentOn IsStepwise c r t → (IsStepwise → SteppedByTable c r t answer) → Leads IsStepwise s (schedule ++ c ∷ []) t
 leads_more IsStepwise s r t schedule c answer leads same went by = record {
   plan = grind (arith, leads.plan, same);
@@ -32,13 +32,14 @@ leads_more IsStepwise s r t schedule c answer leads same went by = record {
 }
 
 -- a step more that is taken
-pub leads_live : (IsStepwise : Type 0) (s r t : Shown) (schedule : List CpuId) (c : CpuId) → Leads IsStepwise s schedule r → SamePlan r t → reason_of c r ≡ None
-    → t.taken ≡ r.taken + 1 → CallsGoOn c r t → IsMoment t → (IsStepwise → SteppedByTable c r t Stepped) → Leads IsStepwise s (schedule ++ c ∷ []) t
+pub leads_live : (IsStepwise : Type 0) (s r t : SystemView) (schedule : List CpuId) (c : CpuId) → Leads IsStepwise s schedule r → SamePlan r t
+    → reason_of c r ≡ None
+    → t.taken ≡ r.taken + 1 → CallsGoOn c r t → IsRunState t → (IsStepwise → SteppedByTable c r t Stepped) → Leads IsStepwise s (schedule ++ c ∷ []) t
 leads_live IsStepwise s r t schedule c leads same live taken grows now by =
     leads_more IsStepwise s r t schedule c Stepped leads same (took live taken grows now by) by
 
 -- a step that is not taken
-pub leads_halted : (IsStepwise : Type 0) (c : CpuId) (s : Shown) → c.0 < length s.cpus → is_some (reason_of c s) ≡ true
+pub leads_halted : (IsStepwise : Type 0) (c : CpuId) (s : SystemView) → c.0 < length s.cpus → is_some (reason_of c s) ≡ true
     → (IsStepwise → HaltsByTable c s (halted_in c s)) → Leads IsStepwise s (c ∷ []) s
 leads_halted IsStepwise c s within some halts = go (reason_of c s) refl some
   where
@@ -48,19 +49,19 @@ leads_halted IsStepwise c s within some halts = go (reason_of c s) refl some
         let nowhere = leads_nowhere IsStepwise s in
         leads_more IsStepwise s s s [] c (Halted reason) nowhere nowhere.plan (stayed reason is refl) (λ step. reasons_step c s within (halts step) reason is)
 
-ran_on : (IsStepwise : Type 0) (s r t : Shown) (first second : List CpuId) → Ran IsStepwise s first r → Ran IsStepwise r second t
+ran_on : (IsStepwise : Type 0) (s r t : SystemView) (first second : List CpuId) → Ran IsStepwise s first r → Ran IsStepwise r second t
     → Ran IsStepwise s (first ++ second) t
 ran_on IsStepwise s r _ first _ ran took_none = subst (λ (l : List CpuId). Ran IsStepwise s l r) (sym (append-nil first)) ran
 ran_on IsStepwise s r _ first _ ran (goes {steps = second} {s = u} c t more went) =
     rw (← append_assoc first second (c ∷ [])) (goes c t (ran_on IsStepwise s r u first second ran more) went)
 
-after_both : (setup : Setup) (first second : List CpuId) (s : Whole) → after_steps setup (first ++ second) s
+after_both : (setup : SystemConfig) (first second : List CpuId) (s : SystemState) → after_steps setup (first ++ second) s
     ≡ after_steps setup second (after_steps setup first s)
 after_both setup [] second s = refl
 after_both setup (c ∷ first) second s = after_both setup first second (system_step setup c s).next
 
 -- one schedule after the other
-pub leads_on : (IsStepwise : Type 0) (s r t : Shown) (first second : List CpuId) → Leads IsStepwise s first r → Leads IsStepwise r second t
+pub leads_on : (IsStepwise : Type 0) (s r t : SystemView) (first second : List CpuId) → Leads IsStepwise s first r → Leads IsStepwise r second t
     → Leads IsStepwise s (first ++ second) t
 leads_on IsStepwise s r t first second one two = record {
   plan = grind (arith, one.plan, two.plan);
@@ -73,12 +74,12 @@ pub taken_on : (all : List CpuId) (at more : ℕ) → take at all ++ take more (
 taken_on all at more = ap (λ (l : List CpuId). take at all ++ take more l) (take_rest all at) ∙ sym (take-add at more all)
 
 -- more steps of one CPU after its earlier ones
-pub leads_alone : (IsStepwise : Type 0) (s r t : Shown) (c : CpuId) (m n : ℕ) → Leads IsStepwise s (replicate m c) r → Leads IsStepwise r (replicate n c) t
+pub leads_alone : (IsStepwise : Type 0) (s r t : SystemView) (c : CpuId) (m n : ℕ) → Leads IsStepwise s (replicate m c) r → Leads IsStepwise r (replicate n c) t
     → Leads IsStepwise s (replicate (m + n) c) t
 leads_alone IsStepwise s r t c m n one two = rw (← replicate-append-replicate m n c) (leads_on IsStepwise s r t (replicate m c) (replicate n c) one two)
 
 -- steps that are not taken
-pub leads_resting : (IsStepwise : Type 0) (c : CpuId) (s : Shown) (asked : ℕ) → c.0 < length s.cpus → is_some (reason_of c s) ≡ true
+pub leads_resting : (IsStepwise : Type 0) (c : CpuId) (s : SystemView) (asked : ℕ) → c.0 < length s.cpus → is_some (reason_of c s) ≡ true
     → (IsStepwise → HaltsByTable c s (halted_in c s)) → Leads IsStepwise s (replicate asked c) s
 leads_resting IsStepwise c s zero within some halts = leads_nowhere IsStepwise s
 leads_resting IsStepwise c s (suc asked) within some halts =
@@ -105,21 +106,22 @@ turn_begun all d more taken some begins few =
 -- One step.
 
 -- what a step that is taken does
-pub record TookOne (IsStepwise : Type 0) (c : CpuId) (s r : Shown) : Type 0 where
+pub record TookOne (IsStepwise : Type 0) (c : CpuId) (s r : SystemView) : Type 0 where
   pub taken : r.taken ≡ s.taken + 1
   pub calls : CallsGoOn c s r
   pub step : IsStepwise → SteppedByTable c s r Stepped
 
-ran_none : (IsStepwise : Type 0) (s r : Shown) (l : List CpuId) → l ≡ [] → Ran IsStepwise s l r → r ≡ s
+ran_none : (IsStepwise : Type 0) (s r : SystemView) (l : List CpuId) → l ≡ [] → Ran IsStepwise s l r → r ≡ s
 ran_none IsStepwise s _ _ none took_none = refl
 ran_none IsStepwise s _ _ none (goes {steps = []} c r ran went) = absurd (cc none)
 ran_none IsStepwise s _ _ none (goes {steps = d ∷ more} c r ran went) = absurd (cc none)
 
-took_alone : (IsStepwise : Type 0) (c d : CpuId) (s u r : Shown) → reason_of c s ≡ None → d ≡ c → u ≡ s → WentOn IsStepwise d u r → TookOne IsStepwise c s r
+took_alone : (IsStepwise : Type 0) (c d : CpuId) (s u r : SystemView) → reason_of c s ≡ None → d ≡ c → u ≡ s → WentOn IsStepwise d u r
+    → TookOne IsStepwise c s r
 took_alone IsStepwise c d s u r live same at (took free taken calls now step) = rw (← same, ← at) (record { taken = taken; calls = calls; step = step })
 took_alone IsStepwise c d s u r live same at (stayed reason is still) = absurd (cc (live, is, same, at))
 
-pub took_one : (IsStepwise : Type 0) (c : CpuId) (s r : Shown) (l : List CpuId) → l ≡ c ∷ [] → reason_of c s ≡ None → Ran IsStepwise s l r
+pub took_one : (IsStepwise : Type 0) (c : CpuId) (s r : SystemView) (l : List CpuId) → l ≡ c ∷ [] → reason_of c s ≡ None → Ran IsStepwise s l r
     → TookOne IsStepwise c s r
 took_one IsStepwise c s _ _ one live took_none = absurd (cc one)
 took_one IsStepwise c s _ _ one live (goes {steps = []} {s = u} d r ran went) =
@@ -129,16 +131,17 @@ took_one IsStepwise c s _ _ one live (goes {steps = d ∷ (f ∷ more)} e r ran 
 
 -- What the table reaches.
 
-reached_far : (setup : Setup) (room : ℕ) (c : CpuId) (looks : ℕ) (s : Whole) → IsReached setup room s → c.0 < setup.cpus
+reached_far : (setup : SystemConfig) (room : ℕ) (c : CpuId) (looks : ℕ) (s : SystemState) → IsReached setup room s → c.0 < setup.cpus
     → IsReached setup room (after_steps setup (replicate looks c) s)
 reached_far setup room c zero s reached within = reached
 reached_far setup room c (suc looks) s reached within = reached_far setup room c looks (system_step setup c s).next (steps_once c reached within) within
 
 -- after so many steps of one CPU a system is reached as before them
-pub reached_alone : (IsStepwise : Type 0) (c : CpuId) (looks : ℕ) (s r : Shown) → c.0 < length s.cpus → Leads IsStepwise s (replicate looks c) r → IsStepwise
+pub reached_alone : (IsStepwise : Type 0) (c : CpuId) (looks : ℕ) (s r : SystemView) → c.0 < length s.cpus → Leads IsStepwise s (replicate looks c) r
+    → IsStepwise
     → IsReachedByTable s → IsReachedByTable r
 reached_alone IsStepwise c looks s r within leads step reached setup is =
     let before = setup_on setup (grind (arith, leads.plan)) is in
     subst (λ (n : ℕ). IsReached setup n (whole_of r)) (sym leads.plan.room)
-    (subst (λ (w : Whole). IsReached setup s.room w) (sym (leads.table step setup before.goes))
+    (subst (λ (w : SystemState). IsReached setup s.room w) (sym (leads.table step setup before.goes))
     (reached_far setup s.room c looks (whole_of s) (reached setup before) (omega (arith, before.count, within))))

@@ -3,7 +3,7 @@
 use Rattle.std.proofs.{Common.{◌≡◌, ℕ, ◌<◌, List, length, slice_set, Option, Some, None, sym, subst}, lemmas.List.length-set}
 use Rattle.layer_traits.specs.{Views.OwnParts.threads_in, declared.{calls.{Call.Call, Effect.Effect}, call_states.{Stage.Stage, CallState.CallState}}}
 use Rattle.{layer_traits.specs.Layers.{BufferLaw.Buffering, QLockLaw.slept_for}, event_log.specs.declared.{entries.Entry.Entry, ids.{BufId.BufId, CpuId.CpuId}}}
-use Rattle.{event_log.specs.declared.ids.Tid.Tid, guest.specs.State.State, cpu.specs.Table.Setups.Setup}
+use Rattle.{event_log.specs.declared.ids.Tid.Tid, guest.specs.State.State, cpu.specs.Table.Setups.SystemConfig}
 
 -- thread t runs: the CPU's part except its hand and the result that it keeps, and the guests, in
 -- which the thread has a call state and a guest
@@ -20,7 +20,7 @@ pub record Runner : Type 0 where
 
 -- the thread that runs is in a call, or begins one
 pub record Caller : Type 0 where
-  pub setup : Setup
+  pub setup : SystemConfig
   pub c : CpuId
   pub runner : Runner
   pub open runner use *
@@ -38,25 +38,25 @@ pub record Site : Type 0 where
   pub is_waits : slept_for waits t ≡ None
 
 -- the lists of a part and of its guests reach thread t
-pub record HasRoom (own : Buffering) (guests : List State) (t : Tid) : Type 0 where
+pub record HasRoom (local : Buffering) (guests : List State) (t : Tid) : Type 0 where
   pub in_guests : t.0 < length guests
-  pub in_call_states : t.0 < length own.call_states
-  pub in_slept : t.0 < length own.cv.lock.slept
-  pub in_waits : t.0 < length own.cv.waits
+  pub in_call_states : t.0 < length local.call_states
+  pub in_slept : t.0 < length local.cv.lock.slept
+  pub in_waits : t.0 < length local.cv.waits
 
 -- the thread in its part
-abbrev pub caller_in : (setup : Setup) (c : CpuId) (own : Buffering) (guests : List State) (t : Tid) → HasRoom own guests t → (trace : List Entry)
+abbrev pub caller_in : (setup : SystemConfig) (c : CpuId) (local : Buffering) (guests : List State) (t : Tid) → HasRoom local guests t → (trace : List Entry)
     (call : Call) (position : ℕ) → Caller
-caller_in setup c own guests t room trace call position = record {
+caller_in setup c local guests t room trace call position = record {
   setup = setup;
   c = c;
   runner = record {
     t = t;
-    ready = (threads_in own).ready;
-    ended = (threads_in own).ended;
-    slept = own.cv.lock.slept;
-    waits = own.cv.waits;
-    call_states = own.call_states;
+    ready = (threads_in local).ready;
+    ended = (threads_in local).ended;
+    slept = local.cv.lock.slept;
+    waits = local.cv.waits;
+    call_states = local.call_states;
     guests = guests;
     in_guests = room.in_guests;
     in_call_states = room.in_call_states;

@@ -3,8 +3,8 @@ use Rattle.std.proofs.Common.{◌≡◌, ◌≢◌, ℕ, zero, suc, ◌+◌, ◌
 use Rattle.std.proofs.{Common.{refl, ap, sym, ◌∙◌, arith}, lemmas.{Bool.ne_eqb, List.{get_or-set_same, get_or-set_other}}}
 use Rattle.{event_log.specs.declared.{entries.Entry.Entry, ids.{BufId.BufId, Tid.Tid}}, guest.specs.State.State, thread_blocks.specs.Queues.is_in}
 use Rattle.{thread_blocks.proofs.Members.same_tid_self, layer_traits.specs.{declared.call_states.CallState.CallState, Layers.QLockLaw.slept_for}}
-use Rattle.{layer_traits.specs.{Layers.BufferLaw.{Buffering, no_call}, Threads.Places.is_thread}, cpu.specs.Table.Setups.{Private, Thread}}
-use Rattle.cpu.{specs.Tower.{Views.TowerOut, Privates.{threads_numbered, private_of, thread_from, thread_of, tid}}, proofs.Tower.Callers.Runner}
+use Rattle.{layer_traits.specs.{Layers.BufferLaw.{Buffering, no_call}, Threads.Places.is_thread}, cpu.specs.Table.Setups.{CpuLocal, Thread}}
+use Rattle.cpu.{specs.Tower.{Views.TowerReply, Privates.{threads_numbered, cpu_local_of, thread_from, thread_of, tid}}, proofs.Tower.Callers.Runner}
 
 pub numbered_long : (f : ℕ → State → Thread) (n : ℕ) (guests : List State) → length (threads_numbered f n guests) ≡ length guests
 numbered_long f n [] = refl
@@ -38,7 +38,7 @@ numbered_changed f g n (suc k) m (x ∷ guests) s is other within =
     λ i. (other n x (λ same. omega (arith, same, is))) i ∷ more i
 
 -- a part's private state by its fields
-abbrev pub own_at : (current hand : Option Tid) (ready ended : List Tid) (deferred : Option TowerOut) (slept waits : List (Option BufId))
+abbrev pub own_at : (current hand : Option Tid) (ready ended : List Tid) (deferred : Option TowerReply) (slept waits : List (Option BufId))
     (call_states : List CallState) → Buffering
 own_at current hand ready ended deferred slept waits call_states = record {
   cv = record {
@@ -52,28 +52,28 @@ own_at current hand ready ended deferred slept waits call_states = record {
 }
 
 -- a private state by its parts
-abbrev pub parts : (current : Option Tid) (ready : List Tid) (hand : Option Tid) (threads : List Thread) (trace : List Entry) → Private
+abbrev pub parts : (current : Option Tid) (ready : List Tid) (hand : Option Tid) (threads : List Thread) (trace : List Entry) → CpuLocal
 parts current ready hand threads trace = record { current = current; ready = ready; hand = hand; threads = threads; trace = trace }
 
 abbrev pub threads_at : Buffering → List State → List Thread
-threads_at own guests = threads_numbered (λ n. thread_of own (tid n)) 0 guests
+threads_at local guests = threads_numbered (λ n. thread_of local (tid n)) 0 guests
 
 -- the part of a thread that runs
-abbrev pub part_at : Runner → (hand : Option Tid) (deferred : Option TowerOut) → Buffering
+abbrev pub part_at : Runner → (hand : Option Tid) (deferred : Option TowerReply) → Buffering
 part_at runner hand deferred = own_at (Some runner.t) hand runner.ready runner.ended deferred runner.slept runner.waits runner.call_states
 
-module _ (runner : Runner) (hand : Option Tid) (deferred : Option TowerOut) where
+module _ (runner : Runner) (hand : Option Tid) (deferred : Option TowerReply) where
   open runner use {t, ended, slept, waits, call_states, guests, in_guests, in_call_states}
 
   abbrev before : Buffering
   before = part_at runner hand deferred
 
   -- thread t runs, or none does: its call state, guest and where it sleeps or waits changed
-  pub changed : (current2 hand2 : Option Tid) (ready2 : List Tid) (deferred2 : Option TowerOut) (slept2 waits2 : List (Option BufId)) (call_state : CallState)
+  pub changed : (current2 hand2 : Option Tid) (ready2 : List Tid) (deferred2 : Option TowerReply) (slept2 waits2 : List (Option BufId)) (call_state : CallState)
       (guest : State) (trace : List Entry) (s w : Option BufId) (k : Bool) → ((j : ℕ) → j ≢ t.0 → (is_thread (tid j) current2 && is_some deferred2) ≡ false)
       → ((j : ℕ) → j ≢ t.0 → slept_for slept2 (tid j) ≡ slept_for slept (tid j)) → ((j : ℕ) → j ≢ t.0 → slept_for waits2 (tid j) ≡ slept_for waits (tid j))
       → slept_for slept2 t ≡ s → slept_for waits2 t ≡ w → (is_thread t current2 && is_some deferred2) ≡ k
-      → private_of (own_at current2 hand2 ready2 ended deferred2 slept2 waits2 (slice_set call_states t.0 call_state)) (slice_set guests t.0 guest) trace
+      → cpu_local_of (own_at current2 hand2 ready2 ended deferred2 slept2 waits2 (slice_set call_states t.0 call_state)) (slice_set guests t.0 guest) trace
       ≡ parts current2 ready2 hand2 (slice_set (threads_at before guests) t.0 (thread_from call_state s w k (is_in t ended) guest)) trace
   changed current2 hand2 ready2 deferred2 slept2 waits2 call_state guest trace s w k none slept_same waits_same is_s is_w is_k =
       let after : Buffering = own_at current2 hand2 ready2 ended deferred2 slept2 waits2 (slice_set call_states t.0 call_state) in
@@ -85,9 +85,10 @@ module _ (runner : Runner) (hand : Option Tid) (deferred : Option TowerOut) wher
       (λ i. thread_from (get_or-set_same call_states t.0 call_state no_call in_call_states i) (is_s i) (is_w i) (is_k i) (is_in t ended) guest))
 
   -- thread t runs on
-  pub runner_goes : (hand2 : Option Tid) (ready2 : List Tid) (deferred2 : Option TowerOut) (call_state : CallState) (guest : State) (trace : List Entry)
+  pub runner_goes : (hand2 : Option Tid) (ready2 : List Tid) (deferred2 : Option TowerReply) (call_state : CallState) (guest : State) (trace : List Entry)
       (s w : Option BufId) → slept_for slept t ≡ s → slept_for waits t ≡ w
-      → private_of (own_at (Some t) hand2 ready2 ended deferred2 slept waits (slice_set call_states t.0 call_state)) (slice_set guests t.0 guest) trace ≡ parts
+      → cpu_local_of (own_at (Some t) hand2 ready2 ended deferred2 slept waits (slice_set call_states t.0 call_state)) (slice_set guests t.0 guest) trace
+      ≡ parts
       (Some t) ready2 hand2 (slice_set (threads_at before guests) t.0 (thread_from call_state s w (is_some deferred2) (is_in t ended) guest)) trace
   runner_goes hand2 ready2 deferred2 call_state guest trace s w is_s is_w =
       changed (Some t) hand2 ready2 deferred2 slept waits call_state guest trace s w (is_some deferred2)
@@ -98,7 +99,7 @@ module _ (runner : Runner) (hand : Option Tid) (deferred : Option TowerOut) wher
   pub thread_gone : (hand2 : Option Tid) (ready2 : List Tid) (slept2 waits2 : List (Option BufId)) (call_state : CallState) (guest : State) (trace : List Entry)
       (s w : Option BufId) → ((j : ℕ) → j ≢ t.0 → slept_for slept2 (tid j) ≡ slept_for slept (tid j))
       → ((j : ℕ) → j ≢ t.0 → slept_for waits2 (tid j) ≡ slept_for waits (tid j)) → slept_for slept2 t ≡ s → slept_for waits2 t ≡ w
-      → private_of (own_at None hand2 ready2 ended None slept2 waits2 (slice_set call_states t.0 call_state)) (slice_set guests t.0 guest) trace ≡ parts None
+      → cpu_local_of (own_at None hand2 ready2 ended None slept2 waits2 (slice_set call_states t.0 call_state)) (slice_set guests t.0 guest) trace ≡ parts None
       ready2 hand2 (slice_set (threads_at before guests) t.0 (thread_from call_state s w false (is_in t ended) guest)) trace
   thread_gone hand2 ready2 slept2 waits2 call_state guest trace s w slept_same waits_same is_s is_w =
       changed None hand2 ready2 None slept2 waits2 call_state guest trace s w false (λ j other. refl) slept_same waits_same is_s is_w refl

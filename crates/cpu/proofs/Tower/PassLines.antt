@@ -4,22 +4,22 @@ use Rattle.std.proofs.{Common.{sym, ◌∙◌, arith}, lemmas.{Bool.ne_eqb, List
 use Rattle.{event_log.specs.declared.{entries.Entry.Entry, ids.{BufId.BufId, CpuId.CpuId, Tid.Tid}}, guest.specs.State.{State, after_yield, at_start, next_of}}
 use Rattle.{thread_blocks.{specs.Queues.is_in, proofs.{Members.same_tid_self, Distinct.pushed_in}}, layer_traits.specs.declared.passes.Pass.Pass}
 use Rattle.layer_traits.specs.{declared.call_states.CallState.CallState, Layers.{QLockLaw.slept_for, BufferLaw.{Buffering, fifo_pass_plan, no_call}}}
-use Rattle.{layer_traits.specs.{Layers.BufferLaw.call_state_of, Polling.Plans.Left}, cpu.specs.Table.Setups.{Setup, Private, Thread, program_of, thread_at}}
-use Rattle.cpu.specs.{Table.Choice.{after_by, after_section, ends, with_state}, Tower.{Views.{TowerAnswer, answer_view}, Privates.{state_at, private_of}}}
-use Rattle.cpu.{specs.Tower.{Privates.{private_passed, thread_from, thread_of, tid}, Composed.IsLine}, proofs.Tower.{Callers.Runner, ChangedThread.changed}}
-use Rattle.cpu.proofs.Tower.{ChangedThread.{numbered_changed, numbered_same, own_at, part_at, parts, threads_at}, SectionLines.react_in, HandLines.home_there}
-use Rattle.cpu.proofs.Tower.{Chains.put_same, BegunPolls.thread_here}
+use Rattle.{layer_traits.specs.{Layers.BufferLaw.call_state_of, Polling.Plans.Left}, cpu.specs.Table.Setups.{SystemConfig, CpuLocal, Thread, program_of}}
+use Rattle.cpu.specs.{Table.{Setups.thread_at, Choice.{after_by, after_section, ends, with_state}}, Tower.{Views.{TowerAnswer, answer_view}, Privates.state_at}}
+use Rattle.cpu.{specs.Tower.{Privates.{cpu_local_of, cpu_local_passed, thread_from, thread_of, tid}, Composed.IsLine}, proofs.Tower.Callers.Runner}
+use Rattle.cpu.proofs.Tower.{ChangedThread.{changed, numbered_changed, numbered_same, own_at, part_at, parts, threads_at}, SectionLines.react_in}
+use Rattle.cpu.proofs.Tower.{HandLines.home_there, Chains.put_same, BegunPolls.thread_here}
 use Rattle.layer_traits.specs.declared.passes.Pass.TheVariants as pass
 use Rattle.layer_traits.specs.declared.queue_edits.QueueEdit.TheVariants as queue
 use Rattle.layer_traits.specs.declared.queue_edits.QueueAnswer.TheVariants as told
 use Rattle.layer_traits.specs.declared.call_states.Stage.TheVariants as at
 
 -- the plan of a poll of this pass is a line of the table
-abbrev pub PassLine : Setup → CpuId → Pass → Buffering → List State → List Entry → Type 0
-PassLine setup c p own guests trace =
-    IsLine setup c (private_of own guests trace) (fifo_pass_plan setup.homes c p own) (private_passed setup own guests trace p)
+abbrev pub PassLine : SystemConfig → CpuId → Pass → Buffering → List State → List Entry → Type 0
+PassLine setup c p local guests trace =
+    IsLine setup c (cpu_local_of local guests trace) (fifo_pass_plan setup.homes c p local) (cpu_local_passed setup local guests trace p)
 
-module _ (setup : Setup) (c : CpuId) (guests : List State) (trace : List Entry) (ended : List Tid) (slept waits : List (Option BufId))
+module _ (setup : SystemConfig) (c : CpuId) (guests : List State) (trace : List Entry) (ended : List Tid) (slept waits : List (Option BufId))
     (call_states : List CallState) where
   -- no thread runs or is ready: the pending threads are taken
   abbrev idle_with : List Tid → Buffering
@@ -55,8 +55,8 @@ module _ (setup : Setup) (c : CpuId) (guests : List State) (trace : List Entry) 
     abbrev pub running : Buffering
     running = part_at runner None None
 
-    abbrev p : Private
-    p = private_of running guests trace
+    abbrev p : CpuLocal
+    p = cpu_local_of running guests trace
 
     abbrev g : State
     g = state_at guests t
@@ -72,12 +72,12 @@ module _ (setup : Setup) (c : CpuId) (guests : List State) (trace : List Entry) 
     yields reply = react_in (fifo_pass_plan setup.homes c pass.YieldNow running) reply
 
     yielded : (pending : List Tid)
-        → private_passed setup running guests trace pass.YieldNow (yields (Some (told.Taken pending)))
+        → cpu_local_passed setup running guests trace pass.YieldNow (yields (Some (told.Taken pending)))
         ≡ after_section setup c p (answer_view (told.Taken pending))
     yielded pending =
         let guest : State = after_yield (next_of (program_of setup t) g) g in
         let ready2 : List Tid = (ready ++ pending) ++ t ∷ [] in
-        (λ i. private_of (own_at None None ready2 ended None slept waits (put_same call_states t.0 (call_state_of call_states t) no_call refl i))
+        (λ i. cpu_local_of (own_at None None ready2 ended None slept waits (put_same call_states t.0 (call_state_of call_states t) no_call refl i))
         (slice_set guests t.0 guest) trace)
         ∙ (changed runner None None None None ready2 None slept waits (call_state_of call_states t) guest trace
         (slept_for slept t) (slept_for waits t) false (λ j other. refl) (λ j other. refl) (λ j other. refl) refl refl refl
@@ -91,7 +91,7 @@ module _ (setup : Setup) (c : CpuId) (guests : List State) (trace : List Entry) 
     yield_line = grind (arith, there_free, yielded)
 
     -- it ends
-    pub ended_now : private_of (own_at None None ready (ended ++ t ∷ []) None slept waits call_states) guests trace ≡ ends p t
+    pub ended_now : cpu_local_of (own_at None None ready (ended ++ t ∷ []) None slept waits call_states) guests trace ≡ ends p t
     ended_now =
         let after : Buffering = own_at None None ready (ended ++ t ∷ []) None slept waits call_states in
         let zero_plus : t.0 ≡ 0 + t.0 = omega arith in
@@ -108,16 +108,16 @@ module _ (setup : Setup) (c : CpuId) (guests : List State) (trace : List Entry) 
         here = grind (arith, pushed_in, same_tid_self, or-true)
 
   -- an instruction that shares nothing
-  pub computed_now : (own : Buffering) (t : Tid) (guest : State) → t.0 < length guests
-      → private_of own (slice_set guests t.0 guest) trace ≡ with_state (private_of own guests trace) t guest
-  computed_now own t guest within =
+  pub computed_now : (local : Buffering) (t : Tid) (guest : State) → t.0 < length guests
+      → cpu_local_of local (slice_set guests t.0 guest) trace ≡ with_state (cpu_local_of local guests trace) t guest
+  computed_now local t guest within =
       let zero_plus : t.0 ≡ 0 + t.0 = omega arith in
-      ap (λ l. parts own.cv.lock.sleep.threads.current own.cv.lock.sleep.threads.ready own.cv.lock.sleep.threads.hand l trace)
-      (numbered_changed (λ n. thread_of own (tid n)) (λ n. thread_of own (tid n)) 0 t.0 t.0 guests guest zero_plus (λ j x other. refl) within
-      ∙ ap (λ x. slice_set (threads_at own guests) t.0 (record x { guest = guest })) (sym (thread_here own guests trace t within)))
+      ap (λ l. parts local.cv.lock.sleep.threads.current local.cv.lock.sleep.threads.ready local.cv.lock.sleep.threads.hand l trace)
+      (numbered_changed (λ n. thread_of local (tid n)) (λ n. thread_of local (tid n)) 0 t.0 t.0 guests guest zero_plus (λ j x other. refl) within
+      ∙ ap (λ x. slice_set (threads_at local guests) t.0 (record x { guest = guest })) (sym (thread_here local guests trace t within)))
 
   -- the first that is ready runs
   pub switched_now : (t : Tid) (ready : List Tid)
-      → private_of (own_at (Some t) None ready ended None slept waits call_states) guests trace
-      ≡ record (private_of (idle_with (t ∷ ready)) guests trace) { current = Some t; ready = ready }
+      → cpu_local_of (own_at (Some t) None ready ended None slept waits call_states) guests trace
+      ≡ record (cpu_local_of (idle_with (t ∷ ready)) guests trace) { current = Some t; ready = ready }
   switched_now t ready = grind (arith, numbered_same)

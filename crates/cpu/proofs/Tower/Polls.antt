@@ -2,14 +2,14 @@
 use Rattle.std.proofs.Common.{◌≡◌, Bool, true, false, List, [], ◌∷◌, ◌++◌, Option, Some, None, option_map, if◌then◌else◌, refl, ap, sym, ◌∙◌, subst, arith}
 use Rattle.event_log.specs.{declared.ids.{CpuId.CpuId, LockId.LockId, Tid.Tid}, History.same_lock, Actions.{Action, action_in, phase, renamed}}
 use Rattle.event_log.{specs.Sections.{Section, block_after, sections_in}, proofs.{Foreign.phase_others, Renaming.{next_action_renamed, others_renamed}}}
-use Rattle.{event_log.proofs.Renaming.phase_renamed, layer_traits.specs.declared.steps.{Reason.Reason, Step.TheVariants.Stepped}}
-use Rattle.layer_traits.specs.{declared.steps.Step.{TheVariants.Halted, Step}, Polling.{Along.IsStep, Looks.Tries, Plans.{Left, Acting, Follows, at_give}}}
-use Rattle.layer_traits.{specs.{Polling.Plans.{is_in_section, reply}, Layers.BufferLaw.Buffering}, proofs.{LookLemmas.tries_renamed, PlanRenaming.map-append}}
-use Rattle.{layer_traits.proofs.PlanRenaming.reply_viewed, cpu.specs.Table.{Blocks.{Block, Name}, Edits.{edited, table_kernel}, Setups.{Setup, Private}}}
-use Rattle.cpu.specs.Table.{Setups.{opening as table_opening, thread_at, Call as TableCall}, Steps.{acting, acting_on, after_reply, chosen_step, cpu_step}}
-use Rattle.cpu.specs.Table.{Steps.{halted_at, halted_by, step_in}, Choice.{Alone, Choice, Goes, Halts, Ask, asked, at_call, at_hand, at_ready, choice}}
-use Rattle.cpu.specs.Tower.{Views.{TowerBlock, TowerName, answer_view, name_of, tower, view}, Composed.{HaltsExactly, HandIsKnown, IsKind, named}}
-use Rattle.cpu.proofs.{ListFacts.ListReads.blocks_keep, Tower.{PolledSystem.{Polled, Way}, SectionViews.tables_agree}}
+use Rattle.{event_log.proofs.Renaming.phase_renamed, layer_traits.specs.declared.steps.{Reason.Reason, Step.{TheVariants.{Stepped, Halted}, Step}}}
+use Rattle.layer_traits.specs.{Polling.{Along.IsStep, Looks.Tries, Plans.{Left, Acting, Follows, at_give, is_in_section, reply}}, Layers.BufferLaw.Buffering}
+use Rattle.{layer_traits.proofs.{LookLemmas.tries_renamed, PlanRenaming.{map-append, reply_viewed}}, cpu.specs.Table.{Blocks.{Block, Name}, Edits.edited}}
+use Rattle.cpu.specs.Table.{Edits.table_kernel, Setups.{SystemConfig, CpuLocal, opening as table_opening, thread_at, Call as TableCall}, Steps.acting}
+use Rattle.cpu.specs.Table.{Steps.{acting_on, after_reply, chosen_step, cpu_step, halted_at, halted_by, step_in}, Choice.{Alone, Choice, Goes, Halts, Ask}}
+use Rattle.cpu.specs.{Table.Choice.{asked, at_call, at_hand, at_ready, choice}, Tower.Views.{TowerBlock, TowerName, answer_view, name_of, tower, view}}
+use Rattle.cpu.{specs.Tower.Composed.{HaltsExactly, HandIsKnown, IsKind, named}, proofs.{ListFacts.ListReads.blocks_keep, Tower.PolledSystem.{Polled, Way}}}
+use Rattle.cpu.proofs.Tower.SectionViews.{tables_agree}
 
 -- The blocks of the locks are of their kinds.
 
@@ -33,7 +33,7 @@ opens_alike a b lock same (s ∷ past) = ap (λ o. if same_lock lock s.lock then
 
 -- A line of the table is a step of it.
 
-module _ {A : Type 0} (polled : Polled) (way : Way A polled) (got : Left Buffering A) (known : HandIsKnown polled.setup got.own)
+module _ {A : Type 0} (polled : Polled) (way : Way A polled) (got : Left Buffering A) (known : HandIsKnown polled.setup got.local)
     (follows : Follows polled.ActsFor tower polled.opening polled.c way.plan polled.old polled.new got) where
   open polled use {ActsFor, setup, opening, c, acts, opens, old, new}
   open way use {p, q, after, line, goes}
@@ -82,11 +82,11 @@ module _ {A : Type 0} (polled : Polled) (way : Way A polled) (got : Left Bufferi
 
 -- A step without an action.
 
-still_is_step : (ActsFor : CpuId → Type 0) (setup : Setup) (c : CpuId) (p q : Private) (log : List (Action Name)) (answer : Step)
+still_is_step : (ActsFor : CpuId → Type 0) (setup : SystemConfig) (c : CpuId) (p q : CpuLocal) (log : List (Action Name)) (answer : Step)
     → cpu_step setup c p log ≡ record { next = q; acts = []; answer = answer } → IsStep ActsFor (cpu_step setup c) p q log log answer
 still_is_step ActsFor setup c p q log answer is = record { others = []; foreign = λ d acts. tt; next = rw is; grows = rw is; answers = rw is }
 
-pub alone_is_step : (ActsFor : CpuId → Type 0) (setup : Setup) (c : CpuId) (p q : Private) (log : List (Action Name))
+pub alone_is_step : (ActsFor : CpuId → Type 0) (setup : SystemConfig) (c : CpuId) (p q : CpuLocal) (log : List (Action Name))
     → is_in_section (phase c log) ≡ false → choice setup c p ≡ Alone q → IsStep ActsFor (cpu_step setup c) p q log log Stepped
 alone_is_step ActsFor setup c p q log outside chose =
     still_is_step ActsFor setup c p q log Stepped (ap (step_in setup c p log) outside ∙ ap (λ x. chosen_step setup c p x log) chose)
@@ -94,7 +94,7 @@ alone_is_step ActsFor setup c p q log outside chose =
 halts_by : (x : Choice) (reason : Reason) → halted_by x ≡ Some reason → x ≡ Halts reason
 halts_by x reason is = grind arith
 
-pub halted_is_step : (ActsFor : CpuId → Type 0) (setup : Setup) (c : CpuId) (p : Private) (log : List (Action Name)) (reason : Reason)
+pub halted_is_step : (ActsFor : CpuId → Type 0) (setup : SystemConfig) (c : CpuId) (p : CpuLocal) (log : List (Action Name)) (reason : Reason)
     → is_in_section (phase c log) ≡ false → halted_at setup c p ≡ Some reason → IsStep ActsFor (cpu_step setup c) p p log log (Halted reason)
 halted_is_step ActsFor setup c p log reason outside halted = still_is_step ActsFor setup c p p log (Halted reason) (grind (arith, halts_by, outside, halted))
 
@@ -103,43 +103,43 @@ halts_exactly setup c p log = grind arith
 
 -- A poll of a lock: one more try of a section that waits.
 
-pub look_is_step : (ActsFor : CpuId → Type 0) (setup : Setup) (c : CpuId) (p : Private) (old new : List (Action TowerName))
+pub look_is_step : (ActsFor : CpuId → Type 0) (setup : SystemConfig) (c : CpuId) (p : CpuLocal) (old new : List (Action TowerName))
     → Tries ActsFor c old new → IsStep ActsFor (cpu_step setup c) p p (named old) (named new) Stepped
 look_is_step ActsFor setup c p old new tries =
-    let seen = tries_renamed name_of ActsFor c old new tries in
-    let log : List (Action Name) = seen.past in
-    let is : cpu_step setup c p log ≡ acting setup c p log = ap (λ x. step_in setup c p log (is_in_section x)) seen.waits in
+    let history = tries_renamed name_of ActsFor c old new tries in
+    let log : List (Action Name) = history.past in
+    let is : cpu_step setup c p log ≡ acting setup c p log = ap (λ x. step_in setup c p log (is_in_section x)) history.waits in
     let none = ap (λ x. at_give x (option_map (table_kernel.answer (asked setup c p).name)
-    (block_after edited (table_opening setup) (asked setup c p).lock (sections_in log)))) seen.waits in
-    let act = ap (λ x. action_in c (asked setup c p).lock (asked setup c p).name log x) seen.waits in
+    (block_after edited (table_opening setup) (asked setup c p).lock (sections_in log)))) history.waits in
+    let act = ap (λ x. action_in c (asked setup c p).lock (asked setup c p).name log x) history.waits in
     let next : p ≡ (cpu_step setup c p log).next = ap (after_reply setup c p) (sym none) ∙ ap (λ o. o.next) (sym is) in
-    let grown : named new ≡ (cpu_step setup c p log).acts ++ log = seen.grows ∙ (ap (λ a. a ∷ log) (sym act) ∙ ap (λ o. o.acts ++ log) (sym is)) in
+    let grown : named new ≡ (cpu_step setup c p log).acts ++ log = history.grows ∙ (ap (λ a. a ∷ log) (sym act) ∙ ap (λ o. o.acts ++ log) (sym is)) in
     record {
-      others = seen.others;
-      foreign = seen.foreign;
-      next = subst (λ l. p ≡ (cpu_step setup c p l).next) seen.joined next;
-      grows = subst (λ l. named new ≡ (cpu_step setup c p l).acts ++ l) seen.joined grown;
-      answers = subst (λ l. Stepped ≡ (cpu_step setup c p l).answer) seen.joined (ap (λ o. o.answer) (sym is));
+      others = history.others;
+      foreign = history.foreign;
+      next = subst (λ l. p ≡ (cpu_step setup c p l).next) history.joined next;
+      grows = subst (λ l. named new ≡ (cpu_step setup c p l).acts ++ l) history.joined grown;
+      answers = subst (λ l. Stepped ≡ (cpu_step setup c p l).answer) history.joined (ap (λ o. o.answer) (sym is));
     }
 
 -- What a CPU does that is not halted.
 
 -- if the hand is empty and a thread runs, it continues its call or its instruction
-pub choice_current : (setup : Setup) (c : CpuId) (p : Private) (t : Tid) (call : Option TableCall) → p.hand ≡ None → p.current ≡ Some t
+pub choice_current : (setup : SystemConfig) (c : CpuId) (p : CpuLocal) (t : Tid) (call : Option TableCall) → p.hand ≡ None → p.current ≡ Some t
     → (thread_at p t).call ≡ call → halted_at setup c p ≡ None → choice setup c p ≡ at_call setup c p t call
 choice_current setup c p t call hand current is halted = grind arith
 
 -- if no thread runs, the first ready thread does
-pub choice_idle : (setup : Setup) (c : CpuId) (p : Private) → p.hand ≡ None → p.current ≡ None → halted_at setup c p ≡ None
+pub choice_idle : (setup : SystemConfig) (c : CpuId) (p : CpuLocal) → p.hand ≡ None → p.current ≡ None → halted_at setup c p ≡ None
     → choice setup c p ≡ at_ready p p.ready
 choice_idle setup c p hand current halted = grind arith
 
 -- a thread in the hand precedes all else
-pub choice_hand : (setup : Setup) (c : CpuId) (p : Private) (u : Tid) → p.hand ≡ Some u → choice setup c p ≡ Goes p
+pub choice_hand : (setup : SystemConfig) (c : CpuId) (p : CpuLocal) (u : Tid) → p.hand ≡ Some u → choice setup c p ≡ Goes p
 choice_hand setup c p u hand = ap (at_hand setup c p) hand
 
 -- the section that continues, or begins
-pub step_goes : (setup : Setup) (c : CpuId) (p q : Private) (old past : List (Action TowerName)) → phase c past ≡ phase c old
+pub step_goes : (setup : SystemConfig) (c : CpuId) (p q : CpuLocal) (old past : List (Action TowerName)) → phase c past ≡ phase c old
     → (is_in_section (phase c old) ≡ true → p ≡ q) → (is_in_section (phase c old) ≡ false → choice setup c p ≡ Goes q)
     → cpu_step setup c p (named past) ≡ acting setup c q (named past)
 step_goes setup c p q old past same inside outside =

@@ -1,11 +1,11 @@
 -- What the table makes of the result of a section of the current thread's call.
 use Rattle.std.proofs.{Common.{◌≡◌, ◌<◌, Bool, List, length, slice_set, Option, Some, None, ap, ◌∙◌}, lemmas.List.{get_or-set_same, set-set}}
 use Rattle.{event_log.specs.declared.{entries.Entry.Entry, ids.{CpuId.CpuId, Tid.Tid}}, guest.specs.State.{State, next_of}, cpu.specs.Table.Blocks.Answer}
-use Rattle.cpu.specs.Table.{Setups.{Setup, Call, Thread, Private, new_thread, program_of, thread_at}, Choice.{after_by, after_section, asked, asked_by}}
+use Rattle.cpu.specs.Table.{Setups.{SystemConfig, Call, Thread, CpuLocal, new_thread, program_of, thread_at}, Choice.{after_by, after_section, asked, asked_by}}
 use Rattle.cpu.specs.Table.Choice.{at_buffer, guest_after, with_told, returned_at, returned_by, section_due, settled, slept_if, woken}
 use Rattle.{cpu.proofs.Tower.ChangedThread.parts, layer_traits.specs.declared.call_states.Stage.TheVariants.Idle}
 
-module _ (setup : Setup) (c : CpuId) (ready : List Tid) (threads : List Thread) (trace : List Entry) (t : Tid) (g : State) (e : Bool)
+module _ (setup : SystemConfig) (c : CpuId) (ready : List Tid) (threads : List Thread) (trace : List Entry) (t : Tid) (g : State) (e : Bool)
     (within : t.0 < length threads) where
   -- thread t inside a call, and after it
   abbrev pub calling : Call → Thread
@@ -15,10 +15,10 @@ module _ (setup : Setup) (c : CpuId) (ready : List Tid) (threads : List Thread) 
   done_with call = record { guest = guest_after call.asks call.closed (next_of (program_of setup t) g) call.message g; call = None; ended = e }
 
   -- thread t runs and is in this state
-  abbrev pub with_t : List Tid → Option Tid → Thread → List Entry → Private
+  abbrev pub with_t : List Tid → Option Tid → Thread → List Entry → CpuLocal
   with_t ready2 hand x trace2 = parts (Some t) ready2 hand (slice_set threads t.0 x) trace2
 
-  abbrev pub from_t : Call → Private
+  abbrev pub from_t : Call → CpuLocal
   from_t call = with_t ready None (calling call) trace
 
   there : (x : Thread) (ready2 : List Tid) (hand : Option Tid) (trace2 : List Entry) → thread_at (with_t ready2 hand x trace2) t ≡ x
@@ -28,7 +28,7 @@ module _ (setup : Setup) (c : CpuId) (ready : List Tid) (threads : List Thread) 
   asks_for call = ap (λ x. asked_by c t x.call) (there (calling call) ready None trace)
 
   -- the table's private state after a section whose result leaves the call so
-  abbrev pub put : Call → Call → List Entry → Thread → Private
+  abbrev pub put : Call → Call → List Entry → Thread → CpuLocal
   put call next trace2 x = parts (Some t) ready None (slice_set (slice_set threads t.0 (calling call)) t.0 (record x { call = Some next })) trace2
 
   pub recorded_is : (call : Call) (a : Answer) (next : Call) (trace2 : List Entry)
@@ -40,7 +40,7 @@ module _ (setup : Setup) (c : CpuId) (ready : List Tid) (threads : List Thread) 
       ∙ ap (λ l. parts (Some t) ready None l trace2) (set-set threads t.0 (calling call) (calling next))))
 
   -- a call that has a section left continues
-  pub goes_on : (next : Call) (ready2 : List Tid) (trace2 : List Entry) → ((p : Private) → returned_at setup p t next next.stage ≡ p)
+  pub goes_on : (next : Call) (ready2 : List Tid) (trace2 : List Entry) → ((p : CpuLocal) → returned_at setup p t next next.stage ≡ p)
       → settled setup (with_t ready2 None (calling next) trace2) ≡ with_t ready2 None (calling next) trace2
   goes_on next ready2 trace2 stays =
       ap (λ x. returned_by setup (with_t ready2 None (calling next) trace2) t x.call) (there (calling next) ready2 None trace2)

@@ -7,7 +7,7 @@ use Rattle.event_log.{specs.{History.same_cpu, Sections.Section}, proofs.Same.{s
 use Rattle.{thread_blocks.{specs.Queues.same_tid, proofs.Members.same_tid_true}, layer_traits.specs.{declared.moves.WaitList.WaitList, Threads.Places.Where}}
 use Rattle.layer_traits.specs.{Threads.Places.{Home, Hand, IsPending, is_home, is_thread, one_if, count_in}, Layers.Sleeping.joined}
 use Rattle.{layer_traits.proofs.CountLemmas.same_cpu_sym, cpu.specs.Table.{Blocks.{Buffer, Block, OfBuffer, OfPending, Name, Pend, TakeAll}, Edits.edited}}
-use Rattle.cpu.specs.{Table.{Edits.{edited_buffer, answer_of_buffer}, Setups.{Setup, home_cpu}}, Wakeups.Order.{Progress, progress, progress_by}}
+use Rattle.cpu.specs.{Table.{Edits.{edited_buffer, answer_of_buffer}, Setups.{SystemConfig, home_cpu}}, Wakeups.Order.{Progress, progress, progress_by}}
 use Rattle.cpu.{specs.Wakeups.Order.{progress_after, block_of, MayEdit, MayEditBlock, IsInOrder}, proofs.Wakeups.{Lists.refuted, Awake.IsAwake}}
 use Rattle.cpu.proofs.Wakeups.{Ordered.{same_buffer, buffer_awake}, ThreadAtBuffer.{Pair, paired, marked_none, grown_list, buffer_self, buffer_true}}
 use Rattle.cpu.proofs.Wakeups.{ThreadAtBuffer.{woken_sleeps, woken_awake, other_pair, other_joined}, OwnSections.{may_edit, own_pair, stays_apart}}
@@ -16,7 +16,7 @@ use Rattle.cpu.proofs.Wakeups.PostsAndVisits.{post_woken, post_moved, post_pendi
 use Rattle.cpu.proofs.Wakeups.PostsAndVisits.{MayComeBy, MayComeTo, MayComeAt, MayCome, marked}
 
 -- what holds after a section log
-pub record Good (setup : Setup) (past : List (Section Name)) : Type 0 where
+pub record Good (setup : SystemConfig) (past : List (Section Name)) : Type 0 where
   pub ordered : IsInOrder setup past
   pub pairs : (b : BufId) (u : Tid) (k : Buffer) → block_of setup (AtBuffer b) past ≡ Some (OfBuffer k)
       → Pair b u k (progress setup (AtBuffer b) past) (visit setup u past) (post setup u past)
@@ -29,30 +29,30 @@ pub record Good (setup : Setup) (past : List (Section Name)) : Type 0 where
 
 -- A new log.
 
-pub good_none : (setup : Setup) → Good setup []
+pub good_none : (setup : SystemConfig) → Good setup []
 good_none setup = grind (arith, same_buffer, paired, marked_none, and_right)
 
 -- How a section moves a thread.
 
 -- after a section of CPU c at buffer d a thread was woken there, fell asleep there as the section's
 -- caller, or is where it was
-pub data Moves (setup : Setup) (c : CpuId) (d : BufId) (u : Tid) (name : Name) (post now : Where) : Type 0 where
+pub data Moves (setup : SystemConfig) (c : CpuId) (d : BufId) (u : Tid) (name : Name) (post now : Where) : Type 0 where
   was_woken : nat_lt u.0 THREADS ≡ true → sleeps_at d post ≡ true → now ≡ post_woken setup c u → Moves setup c d u name post now
   has_slept : post ≡ Home → is_caller u name ≡ true → now ≡ waiters_of d name → Moves setup c d u name post now
   stays : now ≡ post → Moves setup c d u name post now
 
 -- the caller of a section is at `Home`, and its section is due
-abbrev pub CallersAre : Setup → List (Section Name) → CpuId → BufId → Name → Type 0
+abbrev pub CallersAre : SystemConfig → List (Section Name) → CpuId → BufId → Name → Type 0
 CallersAre setup past c d name = (u : Tid) → caller_in name ≡ Some u → IsCallers setup c d name u (post setup u past) (visit setup u past)
 
-pub callers_are : (setup : Setup) (past : List (Section Name)) (c : CpuId) (d : BufId) (name : Name)
+pub callers_are : (setup : SystemConfig) (past : List (Section Name)) (c : CpuId) (d : BufId) (name : Name)
     → MayComeBy setup past c d name (caller_in name) → CallersAre setup past c d name
 callers_are setup past c d name may u is = subst (MayComeBy setup past c d name) is may
 
 pub is_the_caller : (u : Tid) (name : Name) → is_caller u name ≡ true → caller_in name ≡ Some u
 is_the_caller u name on = grind (arith, same_tid_true, on)
 
-moves_buffer : (setup : Setup) (past : List (Section Name)) (c : CpuId) (d : BufId) (name : Name) (u : Tid) (k : Buffer) (g : Progress)
+moves_buffer : (setup : SystemConfig) (past : List (Section Name)) (c : CpuId) (d : BufId) (name : Name) (u : Tid) (k : Buffer) (g : Progress)
     → CallersAre setup past c d name → Pair d u k g (visit setup u past) (post setup u past)
     → Moves setup c d u name (post setup u past)
     (post_moved setup c d u name (answer_of_buffer name k).slept (answer_of_buffer name k).woke (post setup u past))
@@ -61,13 +61,13 @@ moves_buffer setup past c d name u k g callers pair =
   where
     by_test : (w : Bool) → is_thread u (answer_of_buffer name k).woke ≡ w → (slept : Bool) (mine : Bool) → is_caller u name ≡ mine
         → Moves setup c d u name (post setup u past) (if w then post_woken setup c u else (if slept && mine then waiters_of d name else post setup u past))
-    by_test true is slept mine own =
+    by_test true is slept mine local =
         let at = woken_sleeps d u k g (visit setup u past) (post setup u past) pair name is in
         was_woken at.0 at.1 refl
-    by_test false is true true own = has_slept (callers u (is_the_caller u name own)).here own refl
-    by_test false is slept mine own = stays refl
+    by_test false is true true local = has_slept (callers u (is_the_caller u name local)).here local refl
+    by_test false is slept mine local = stays refl
 
-pub moves_at : (setup : Setup) (past : List (Section Name)) → Good setup past → (c : CpuId) (d : BufId) (name : Name) → CallersAre setup past c d name
+pub moves_at : (setup : SystemConfig) (past : List (Section Name)) → Good setup past → (c : CpuId) (d : BufId) (name : Name) → CallersAre setup past c d name
     → (u : Tid) (o : Option Block) → block_of setup (AtBuffer d) past ≡ o
     → Moves setup c d u name (post setup u past) (post_buffer setup c d u name o (post setup u past))
 moves_at setup past good c d name callers u (Some (OfBuffer k)) is =
@@ -79,7 +79,7 @@ moves_at setup past good c d name callers u o is = stays refl
 pub sleeps_not_home : (d : BufId) (x : Where) → sleeps_at d x ≡ true → is_home x ≡ false
 sleeps_not_home d x on = grind arith
 
-module _ (setup : Setup) (c : CpuId) (d : BufId) (u : Tid) (name : Name) (x now : Where) where
+module _ (setup : SystemConfig) (c : CpuId) (d : BufId) (u : Tid) (name : Name) (x now : Where) where
   lists_stay : (b : BufId) (list : WaitList) → is_buffer b d ≡ false → Moves setup c d u name x now → sleeps_in b list now ≡ sleeps_in b list x
   lists_stay b list off given = grind (arith, woken_awake, buffer_self, and_left, same_lock_true, false_from_ne_true, refuted, same_lock_self)
 
@@ -95,7 +95,7 @@ module _ (setup : Setup) (c : CpuId) (d : BufId) (u : Tid) (name : Name) (x now 
 
 -- A section at a buffer.
 
-module _ (setup : Setup) (past : List (Section Name)) (good : Good setup past) (c : CpuId) (d : BufId) (name : Name)
+module _ (setup : SystemConfig) (past : List (Section Name)) (good : Good setup past) (c : CpuId) (d : BufId) (name : Name)
     (callers : CallersAre setup past c d name) (t : Tid) (caller : caller_in name ≡ Some t) where
   -- the section keeps the order
   edits : (k : Buffer) → block_of setup (AtBuffer d) past ≡ Some (OfBuffer k) → MayEdit name k (progress setup (AtBuffer d) past)
@@ -110,8 +110,8 @@ module _ (setup : Setup) (past : List (Section Name)) (good : Good setup past) (
   edited_pair : (u : Tid) (k : Buffer) → block_of setup (AtBuffer d) past ≡ Some (OfBuffer k) → (mine : Bool) → is_caller u name ≡ mine
       → Pair d u (edited_buffer name k) (progress_after name k (progress setup (AtBuffer d) past)) (visit_moved d u name k (visit setup u past))
       (post_moved setup c d u name (answer_of_buffer name k).slept (answer_of_buffer name k).woke (post setup u past))
-  edited_pair u k block true own =
-      let is = is_the_caller u name own in
+  edited_pair u k block true local =
+      let is = is_the_caller u name local in
       let mine = callers u is in
       let awake : IsAwake k (progress setup (AtBuffer d) past) = buffer_awake setup past good.ordered d k block in
       own_pair d u setup c name k (progress setup (AtBuffer d) past) (visit setup u past) (post setup u past) is mine.here (λ e. (awake.idle e).0)
@@ -130,7 +130,7 @@ module _ (setup : Setup) (past : List (Section Name)) (good : Good setup past) (
   visit_there b off u k g x (Some (OfBuffer was)) pair = by_test (is_caller u name) refl
     where
       by_test : (mine : Bool) → is_caller u name ≡ mine → Pair b u k g (if mine then next_visit d name was (visit setup u past) else visit setup u past) x
-      by_test mine own = grind (arith, paired, refuted, stays_apart, is_the_caller)
+      by_test mine local = grind (arith, paired, refuted, stays_apart, is_the_caller)
   visit_there b off u k g x o pair = pair
 
   there_pair : (b : BufId) → is_buffer b d ≡ false → (u : Tid) (k : Buffer) → block_of setup (AtBuffer b) past ≡ Some (OfBuffer k)
@@ -156,7 +156,7 @@ module _ (setup : Setup) (past : List (Section Name)) (good : Good setup past) (
         (moves_at setup past good c d name callers u (block_of setup (AtBuffer d) past) refl) (good.small u) on;
     known = λ u off.
         known_moves setup c d u name (post setup u past) _ (moves_at setup past good c d name callers u (block_of setup (AtBuffer d) past) refl)
-        (λ own. (and_parts (same_cpu (home_cpu setup u) c) (nat_lt u.0 (length setup.homes)) (callers u (is_the_caller u name own)).local).1)
+        (λ local. (and_parts (same_cpu (home_cpu setup u) c) (nat_lt u.0 (length setup.homes)) (callers u (is_the_caller u name local)).local_is).1)
         (good.known u) off;
   }
     where
@@ -172,7 +172,7 @@ module _ (setup : Setup) (past : List (Section Name)) (good : Good setup past) (
 -- A section on pending threads.
 
 -- the queue of the section's lock, and the queue of another lock
-module _ (setup : Setup) (past : List (Section Name)) (good : Good setup past) (c d : CpuId) where
+module _ (setup : SystemConfig) (past : List (Section Name)) (good : Good setup past) (c d : CpuId) where
   pended_list : (s : Tid) → post setup s past ≡ Hand c → home_cpu setup s ≡ d → (u : Tid) (list : List Tid)
       → block_of setup (Pending d) past ≡ Some (OfPending list)
       → count_in u (joined s list) ≡ one_if (same_cpu (home_cpu setup u) d && is_pending (if same_tid s u then IsPending d else post setup u past))
@@ -215,7 +215,7 @@ module _ (setup : Setup) (past : List (Section Name)) (good : Good setup past) (
       by_test e u now false off is = good.pending e u now is ∙ ap one_if (sym (grind (arith, may, off, same_tid_true, same_cpu_sym, same_cpu_true)))
 
 -- any section that may occur
-module _ (setup : Setup) (past : List (Section Name)) (good : Good setup past) (c : CpuId) (name : Name) where
+module _ (setup : SystemConfig) (past : List (Section Name)) (good : Good setup past) (c : CpuId) (name : Name) where
   good_at : (lock : LockId) → MayComeAt setup past c lock name → Good setup (record { cpu = c; lock = lock; edit = name } ∷ past)
   good_at (Pending d) may = good_pending setup past good c d name may
   good_at (AtBuffer d) may = by_caller (caller_in name) refl may
@@ -225,5 +225,5 @@ module _ (setup : Setup) (past : List (Section Name)) (good : Good setup past) (
       by_caller None is now = absurd now
       by_caller (Some t) is now = good_buffer setup past good c d name (callers_are setup past c d name may) t is
 
-pub good_step : (setup : Setup) (past : List (Section Name)) (s : Section Name) → Good setup past → MayCome setup past s → Good setup (s ∷ past)
+pub good_step : (setup : SystemConfig) (past : List (Section Name)) (s : Section Name) → Good setup past → MayCome setup past s → Good setup (s ∷ past)
 good_step setup past s good may = good_at setup past good s.cpu s.edit s.lock may

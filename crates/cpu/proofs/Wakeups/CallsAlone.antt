@@ -7,21 +7,21 @@ use Rattle.{event_log.specs.{History.same_cpu, Runs.Group, Sections.Section}, th
 use Rattle.layer_traits.specs.declared.call_states.Stage.TheVariants.{Idle, Acquires, Enters, Tries, Signals, SignalsOwn, Releases}
 use Rattle.{layer_traits.specs.Blocks.BufferBlocks.may_join, cpu.specs.Table.Blocks.{Buffer, OfBuffer, Name, RelQ, Pend, side_of_group, Reported, Nothing}}
 use Rattle.cpu.specs.Table.{Blocks.{Position, Answer, Enter}, Edits.{edited_buffer, acquired, lined_up, reports, wakes, answer, answer_of_acquire}}
-use Rattle.cpu.specs.Table.{Edits.{answer_of_buffer, line_on, drawn_position}, Setups.{Setup, Call, Private, thread_at, home_cpu, home_threads, have_ended}}
-use Rattle.cpu.specs.Table.{Setups.stands_at, Choice.{section_due, first_signal, second_signal, asked, Goes, choice, with_call, entry_made, effected}}
-use Rattle.cpu.specs.Table.Choice.{with_told, woken, guest_after, returned, returned_at, settled, after_section, first_section, recorded_entry}
-use Rattle.cpu.specs.{Table.{Choice.recorded_position, Steps.{Whole, steps_by}}, Wakeups.{Alone.{IsInCall, steps_to_move}, Order.block_of}}
+use Rattle.cpu.specs.Table.{Edits.{answer_of_buffer, line_on, drawn_position}, Setups.{SystemConfig, Call, CpuLocal, thread_at, home_cpu, home_threads}}
+use Rattle.cpu.specs.Table.{Setups.{have_ended, stands_at}, Choice.{section_due, first_signal, second_signal, asked, Goes, choice, with_call, entry_made}}
+use Rattle.cpu.specs.Table.Choice.{effected, with_told, woken, guest_after, returned, returned_at, settled, after_section, first_section, recorded_entry}
+use Rattle.cpu.specs.{Table.{Choice.recorded_position, Steps.{SystemState, steps_by}}, Wakeups.{Alone.{IsInCall, steps_to_move}, Order.block_of}}
 use Rattle.cpu.proofs.Wakeups.{Agreement.at_same, CpuStep.pending_there, CpuAlone.{steps_more, section_of, Stands, after_three, two_steps, here_two}}
 use Rattle.cpu.proofs.Wakeups.CpuAlone.{three_steps, stands_after, InCall, with_new, goes_on, asks_for, after_is, settled_is, block_next}
 
-module _ (setup : Setup) (c : CpuId) (t : Tid) where
+module _ (setup : SystemConfig) (c : CpuId) (t : Tid) where
   -- after n steps of CPU c its thread t is in this call, which continues; the call's buffer holds
   -- this
-  pub record Gets (s : Whole) (n : ℕ) (k : Buffer) (call : Call) (traced : List Entry) (left : ℕ) : Type 0 where
-    pub now : Whole
+  pub record Gets (s : SystemState) (n : ℕ) (k : Buffer) (call : Call) (traced : List Entry) (left : ℕ) : Type 0 where
+    pub now : SystemState
     pub by : steps_by setup c n s ≡ now
-    pub before : Private
-    pub state : Private
+    pub before : CpuLocal
+    pub state : CpuLocal
     pub past : List (Section Name)
     pub stands : Stands setup c now before past left
     pub goes : choice setup c before ≡ Goes state
@@ -29,7 +29,7 @@ module _ (setup : Setup) (c : CpuId) (t : Tid) where
     pub block : block_of setup (AtBuffer call.buffer) past ≡ Some (OfBuffer k)
 
   -- three steps are the section that is due, with this result
-  section_done : {k : Buffer} {call : Call} {traced : List Entry} (s : Whole) (n left : ℕ) (a : Answer) (gets : Gets s n k call traced (left + 3))
+  section_done : {k : Buffer} {call : Call} {traced : List Entry} (s : SystemState) (n left : ℕ) (a : Answer) (gets : Gets s n k call traced (left + 3))
       → answer_of_buffer (section_due t call call.stage) k ≡ a → steps_by setup c (n + 3) s ≡ after_three setup c gets.now gets.state a
   section_done {call = call} {traced = traced} s n left a gets told =
       steps_more setup c n 3 s ∙ ap (steps_by setup c 3) gets.by ∙ three_steps setup c gets.now gets.before gets.state gets.past left a gets.stands gets.goes
@@ -37,9 +37,10 @@ module _ (setup : Setup) (c : CpuId) (t : Tid) where
       ∙ ap (option_map (answer (section_due t call call.stage))) gets.block ∙ ap Some told)
 
   -- one section of the call
-  advance : (s : Whole) (n : ℕ) (k next : Buffer) (call more : Call) (traced longer : List Entry) (left : ℕ) (a : Answer) → Gets s n k call traced (left + 3)
+  advance : (s : SystemState) (n : ℕ) (k next : Buffer) (call more : Call) (traced longer : List Entry) (left : ℕ) (a : Answer)
+      → Gets s n k call traced (left + 3)
       → answer_of_buffer (section_due t call call.stage) k ≡ a → edited_buffer (section_due t call call.stage) k ≡ next → call.buffer ≡ more.buffer
-      → ((p : Private) → InCall setup c p t call traced → InCall setup c (after_section setup c p a) t more longer) → Gets s (n + 3) next more longer left
+      → ((p : CpuLocal) → InCall setup c p t call traced → InCall setup c (after_section setup c p a) t more longer) → Gets s (n + 3) next more longer left
   advance s n k next call more traced longer left a gets told edits same_buffer goes_so =
       let q = gets.state in
       let asks = asks_for setup c q t call traced gets.inside in
@@ -57,17 +58,17 @@ module _ (setup : Setup) (c : CpuId) (t : Tid) where
       }
 
   -- a section that puts no thread to sleep and wakes none: the call records its result
-  answer_recorded : (p h : Private) (call more : Call) (traced longer : List Entry) (told : Reported) → InCall setup c p t call traced
+  answer_recorded : (p h : CpuLocal) (call more : Call) (traced longer : List Entry) (told : Reported) → InCall setup c p t call traced
       → with_told c p t call call.stage told ≡ h
       → InCall setup c h t more longer → returned_at setup h t more more.stage ≡ h → InCall setup c (after_section setup c p (reports told)) t more longer
   answer_recorded p h call more traced longer told inside is after stays = grind (arith, after_is, settled_is)
 
-  new_in : (p : Private) (call more : Call) (traced : List Entry) → InCall setup c p t call traced → InCall setup c (with_call p t (Some more)) t more traced
+  new_in : (p : CpuLocal) (call more : Call) (traced : List Entry) → InCall setup c p t call traced → InCall setup c (with_call p t (Some more)) t more traced
   new_in p call more traced at = with_new setup c p t more traced at.hand at.current at.known at.live at.trace
 
   -- The sections, one after the other.
 
-  pub section_acquires : (s : Whole) (n left : ℕ) (k : Buffer) (call : Call) (traced : List Entry) → k.busy ≡ None
+  pub section_acquires : (s : SystemState) (n left : ℕ) (k : Buffer) (call : Call) (traced : List Entry) → k.busy ≡ None
       → Gets s n k (record call { stage = Acquires }) traced (left + 3)
       → Gets s (n + 3) (record k { busy = Some t }) (record call { stage = Enters }) traced left
   section_acquires s n left k call traced free gets =
@@ -82,7 +83,8 @@ module _ (setup : Setup) (c : CpuId) (t : Tid) where
     may_enter line empty = ap (may_join t) empty ∙ ap (λ b. b && true) (lt-ltb t.0 THREADS small)
 
     pub enters_line : (side : Side) (asks : Group) → first_section t asks ≡ Enter t side
-        → ((p : Private) (call : Call) (told : Reported) → recorded_entry c p t call asks told ≡ recorded_position p t call told) → (s : Whole) (n left : ℕ)
+        → ((p : CpuLocal) (call : Call) (told : Reported) → recorded_entry c p t call asks told ≡ recorded_position p t call told)
+        → (s : SystemState) (n left : ℕ)
         (k : Buffer) (call : Call) (traced : List Entry) → line_on side k ≡ [] → Gets s n k (record call { asks = asks; stage = Enters }) traced (left + 3)
         → Gets s (n + 3) (lined_up t side k) (record call { asks = asks; position = drawn_position side k; stage = Tries }) traced left
     enters_line side asks first records s n left k call traced empty gets =
@@ -94,7 +96,7 @@ module _ (setup : Setup) (c : CpuId) (t : Tid) where
         (records p now (Position (drawn_position side k))) (new_in p now more traced inside) refl)
 
   -- the state after an effect: the entry is written
-  effect_in : (p : Private) (call now : Call) (op : ℕ) (traced : List Entry) → InCall setup c p t call traced
+  effect_in : (p : CpuLocal) (call now : Call) (op : ℕ) (traced : List Entry) → InCall setup c p t call traced
       → InCall setup c (effected c p t now op) t (record now { effect = Some op; stage = Signals }) (traced ++ entry_made c t now op now.message ∷ [])
   effect_in p call now op traced inside =
       let after = new_in p call (record now { effect = Some op; stage = Signals }) traced inside in
@@ -106,9 +108,9 @@ module _ (setup : Setup) (c : CpuId) (t : Tid) where
       have_same (u ∷ ts) = ap (λ b. (thread_at (with_call p t (Some (record now { effect = Some op; stage = Signals }))) u).ended && b) (have_same ts)
 
   -- a section that has the call's effect: the call as it then is
-  pub section_tries : (s : Whole) (n left : ℕ) (k next : Buffer) (call now : Call) (traced : List Entry) (told : Reported) → call.buffer ≡ now.buffer
+  pub section_tries : (s : SystemState) (n left : ℕ) (k next : Buffer) (call now : Call) (traced : List Entry) (told : Reported) → call.buffer ≡ now.buffer
       → answer_of_buffer (section_due t call call.stage) k ≡ reports told → edited_buffer (section_due t call call.stage) k ≡ next
-      → ((p : Private) → with_told c p t call call.stage told ≡ effected c p t now k.effects) → Gets s n k call traced (left + 3)
+      → ((p : CpuLocal) → with_told c p t call call.stage told ≡ effected c p t now k.effects) → Gets s n k call traced (left + 3)
       → Gets s (n + 3) next (record now { effect = Some k.effects; stage = Signals }) (traced ++ entry_made c t now k.effects now.message ∷ []) left
   section_tries s n left k next call now traced told same_buffer tells_so edits recorded_so gets =
       advance s n k next call (record now { effect = Some k.effects; stage = Signals }) traced (traced ++ entry_made c t now k.effects now.message ∷ []) left
@@ -117,7 +119,7 @@ module _ (setup : Setup) (c : CpuId) (t : Tid) where
       (traced ++ entry_made c t now k.effects now.message ∷ []) told inside (recorded_so p) (effect_in p call now k.effects traced inside) refl)
 
   -- less room than there is
-  with_less : (s : Whole) (n : ℕ) (k : Buffer) (call : Call) (traced : List Entry) (left less : ℕ) → less ≤ left
+  with_less : (s : SystemState) (n : ℕ) (k : Buffer) (call : Call) (traced : List Entry) (left less : ℕ) → less ≤ left
       → Gets s n k call traced left → Gets s n k call traced less
   with_less s n k call traced left less fewer gets = record {
     now = gets.now;
@@ -133,10 +135,10 @@ module _ (setup : Setup) (c : CpuId) (t : Tid) where
 
   -- A signal, after which the call is as `more`.
 
-  module _ (s : Whole) (k next : Buffer) (call more : Call) (traced : List Entry) (same_buffer : call.buffer ≡ more.buffer)
+  module _ (s : SystemState) (k next : Buffer) (call more : Call) (traced : List Entry) (same_buffer : call.buffer ≡ more.buffer)
       (edits : edited_buffer (section_due t call call.stage) k ≡ next)
-      (recorded_so : (p : Private) (told : Reported) → with_told c p t call call.stage told ≡ with_call p t (Some more))
-      (stays : (p : Private) → returned_at setup p t more more.stage ≡ p) where
+      (recorded_so : (p : CpuLocal) (told : Reported) → with_told c p t call call.stage told ≡ with_call p t (Some more))
+      (stays : (p : CpuLocal) → returned_at setup p t more more.stage ≡ p) where
     -- a signal that wakes no thread
     signals_none : (n left : ℕ) → answer_of_buffer (section_due t call call.stage) k ≡ wakes None
         → Gets s n k call traced (left + 3) → Gets s (n + 3) next more traced left
@@ -151,7 +153,7 @@ module _ (setup : Setup) (c : CpuId) (t : Tid) where
         advance s n k next call more traced traced left (wakes (Some u)) gets told edits same_buffer (λ p inside.
         let h = with_call p t (Some more) in
         let now = new_in p call more traced inside in
-        let ready : Private = record h { ready = h.ready ++ u ∷ [] } in
+        let ready : CpuLocal = record h { ready = h.ready ++ u ∷ [] } in
         let at : InCall setup c ready t more traced = grind (arith, now) in
         let same = after_is setup c p t call traced (wakes (Some u)) inside
         ∙ ap (λ x. settled setup (woken setup c (Some u) x)) (recorded_so p Nothing)
@@ -166,7 +168,7 @@ module _ (setup : Setup) (c : CpuId) (t : Tid) where
         let q = gets.state in
         let asks = asks_for setup c q t call traced gets.inside in
         let h = with_call q t (Some more) in
-        let held : Private = record h { hand = Some u } in
+        let held : CpuLocal = record h { hand = Some u } in
         let same = after_is setup c q t call traced (wakes (Some u)) gets.inside
         ∙ ap (λ x. settled setup (woken setup c (Some u) x)) (recorded_so q Nothing)
         ∙ ap (λ b. settled setup (if b then record h { ready = h.ready ++ u ∷ [] } else record h { hand = Some u })) away in
@@ -209,15 +211,15 @@ module _ (setup : Setup) (c : CpuId) (t : Tid) where
             (signals_away n left u away told (with_less s n k call traced (left + 6) ((left + 3) + 3) (omega arith) got))
 
   -- the call has returned, with this trace; one step earlier it was under way
-  pub record Returned (s : Whole) (n : ℕ) (traced : List Entry) : Type 0 where
-    pub now : Private
+  pub record Returned (s : SystemState) (n : ℕ) (traced : List Entry) : Type 0 where
+    pub now : CpuLocal
     pub here : slice_get (steps_by setup c n s).cpus c.0 ≡ Some now
     pub outside : (thread_at now t).call ≡ None
     pub trace : now.trace ≡ traced
     pub before : (m : ℕ) → m + 1 ≡ n → IsInCall (steps_by setup c m s) c t
 
   -- the lock is released, and no thread sleeps at it
-  releases : (s : Whole) (n left : ℕ) (k : Buffer) (call : Call) (traced : List Entry) → k.sleepers ≡ []
+  releases : (s : SystemState) (n left : ℕ) (k : Buffer) (call : Call) (traced : List Entry) → k.sleepers ≡ []
       → Gets s n k (record call { stage = Releases }) traced (left + 3) → Returned s (n + 3) traced
   releases s n left k call traced none gets =
       let last : Call = record call { stage = Releases } in
@@ -251,14 +253,14 @@ module _ (setup : Setup) (c : CpuId) (t : Tid) where
       }
 
   -- From the effect to the return: the two signals and the release.
-  pub call_ends_alone : (s : Whole) (n left : ℕ) (k : Buffer) (call : Call) (traced : List Entry) (woke own : Option Tid)
+  pub call_ends_alone : (s : SystemState) (n left : ℕ) (k : Buffer) (call : Call) (traced : List Entry) (woke local : Option Tid)
       → answer_of_buffer (first_signal t (side_of_group call.asks)) k ≡ wakes woke
-      → answer_of_buffer (second_signal t (side_of_group call.asks)) (edited_buffer (first_signal t (side_of_group call.asks)) k) ≡ wakes own
+      → answer_of_buffer (second_signal t (side_of_group call.asks)) (edited_buffer (first_signal t (side_of_group call.asks)) k) ≡ wakes local
       → (edited_buffer (second_signal t (side_of_group call.asks)) (edited_buffer (first_signal t (side_of_group call.asks)) k)).sleepers ≡ []
-      → 9 + (steps_to_move setup c woke + steps_to_move setup c own) ≤ left → Gets s n k (record call { stage = Signals }) traced left
-      → Returned s (n + (9 + (steps_to_move setup c woke + steps_to_move setup c own))) traced
-  call_ends_alone s n left k call traced woke own first_tells own_tells none space gets =
-      let mine = steps_to_move setup c own in
+      → 9 + (steps_to_move setup c woke + steps_to_move setup c local) ≤ left → Gets s n k (record call { stage = Signals }) traced left
+      → Returned s (n + (9 + (steps_to_move setup c woke + steps_to_move setup c local))) traced
+  call_ends_alone s n left k call traced woke local first_tells own_tells none space gets =
+      let mine = steps_to_move setup c local in
       let theirs = steps_to_move setup c woke in
       let other = edited_buffer (first_signal t (side_of_group call.asks)) k in
       let both = edited_buffer (second_signal t (side_of_group call.asks)) other in
@@ -266,6 +268,6 @@ module _ (setup : Setup) (c : CpuId) (t : Tid) where
       n (3 + (3 + mine)) woke first_tells
       (with_less s n k (record call { stage = Signals }) traced left ((3 + (3 + mine)) + (3 + theirs)) (omega (arith, space)) gets) in
       let two = signals s other both (record call { stage = SignalsOwn }) (record call { stage = Releases }) traced refl refl (λ p told. refl) (λ p. refl)
-      (n + (3 + theirs)) 3 own own_tells one in
+      (n + (3 + theirs)) 3 local own_tells one in
       let same : ((n + (3 + theirs)) + (3 + mine)) + 3 ≡ n + (9 + (theirs + mine)) = omega arith in
       subst (λ m. Returned s m traced) same (releases s ((n + (3 + theirs)) + (3 + mine)) 0 both call traced none two)

@@ -3,21 +3,21 @@ use Rattle.std.proofs.{Common.{◌≡◌, ◌<◌, List, length, Some, None, ref
 use Rattle.{event_log.specs.declared.ids.{CpuId.CpuId, Tid.Tid}, guest.specs.declared.instructions.Instruction.{Instruction, TheVariants.{Send, Recv, Close}}}
 use Rattle.{guest.specs.{declared.instructions.Instruction.TheVariants.{Yield as YieldLine, Exit}, State.State}, thread_blocks.proofs.Members.same_tid_true}
 use Rattle.layer_traits.{specs.{declared.call_states.Stage.TheVariants.Acquires, Threads.Places.Where}, proofs.CountLemmas.same_tid_sym}
-use Rattle.cpu.specs.Table.{Setups.{Setup, Call, Private, thread_at}, Choice.{Choice, Halts, Alone, Goes, new_call, with_call, with_state, begin_or_halt}}
-use Rattle.cpu.{specs.Table.Choice.{at_instruction, at_ready, choice}, proofs.Wakeups.{Lists.refuted, PostsAndVisits.Visit, Agreement.{Agrees, IsSettled}}}
-use Rattle.cpu.proofs.Wakeups.Agreement.{at_same, at_other, same_with, agrees_same, runs_at_home, local_within}
+use Rattle.cpu.specs.Table.{Setups.{SystemConfig, Call, CpuLocal, thread_at}, Choice.{Choice, Halts, Alone, Goes, new_call, with_call, with_state}}
+use Rattle.cpu.{specs.Table.Choice.{begin_or_halt, at_instruction, at_ready, choice}, proofs.Wakeups.{Lists.refuted, PostsAndVisits.Visit, Agreement.Agrees}}
+use Rattle.cpu.proofs.Wakeups.Agreement.{IsSettled, at_same, at_other, same_with, agrees_same, runs_at_home, local_within}
 
 -- the state that is chosen is so
-abbrev pub OfChoice : (Private → Type 0) → Choice → Type 0
+abbrev pub OfChoice : (CpuLocal → Type 0) → Choice → Type 0
 OfChoice Q (Halts reason) = Unit {0}
 OfChoice Q (Alone q) = Q q
 OfChoice Q (Goes q) = Q q
 
 -- it agrees
-abbrev pub ChoiceOk : Setup → CpuId → (Tid → Visit) → (Tid → Where) → Choice → Type 0
+abbrev pub ChoiceOk : SystemConfig → CpuId → (Tid → Visit) → (Tid → Where) → Choice → Type 0
 ChoiceOk setup c T P = OfChoice (λ q. Agrees setup c q T P × IsSettled setup c q)
 
-module _ (setup : Setup) (c : CpuId) (p : Private) (T : Tid → Visit) (P : Tid → Where)
+module _ (setup : SystemConfig) (c : CpuId) (p : CpuLocal) (T : Tid → Visit) (P : Tid → Where)
     (agrees : Agrees setup c p T P) (settled_before : IsSettled setup c p) where
   switches : (list : List Tid) → p.ready ≡ list → p.current ≡ None → p.hand ≡ None → ChoiceOk setup c T P (at_ready p list)
   switches list is idle empty = grind (arith, same_tid_sym, refuted)

@@ -6,8 +6,8 @@ use Rattle.cpu.proofs.Wakeups.{Agreement.{at_other, at_same, Agrees, IsSettled, 
 use Rattle.cpu.proofs.Wakeups.{BuffersAndThreads.{Good, moves_at, CallersAre, callers_are, is_the_caller, sleeps_not_home}, SectionsAgree.IsCalling}
 use Rattle.cpu.proofs.Wakeups.SectionsAgree.{section_caller, agrees_call, agrees_pended, agrees_drained, agrees_yielded, agrees_foreign, drained_hand}
 use Rattle.cpu.proofs.Wakeups.PostsAndVisits.{caller_in, post_pending, post, visit, is_local, IsCallers, MayComeBy, MayComeTo, MayComeAt, MayCome}
-use Rattle.cpu.{proofs.ListFacts.ListReads.blocks_keep, specs.Table.{Blocks.{Block, OfBuffer, OfPending, Name, Pend, TakeAll}, Setups.{opening, Setup, Call}}}
-use Rattle.cpu.specs.Table.{Setups.{Private, thread_at, home_cpu, stands_at}, Edits.{edited, answer, answer_of_buffer}, Steps.after_reply, Choice.Ask}
+use Rattle.cpu.{proofs.ListFacts.ListReads.blocks_keep, specs.Table.{Blocks.{Block, OfBuffer, OfPending, Name, Pend, TakeAll}, Setups.{opening, SystemConfig}}}
+use Rattle.cpu.specs.Table.{Setups.{Call, CpuLocal, thread_at, home_cpu, stands_at}, Edits.{edited, answer, answer_of_buffer}, Steps.after_reply, Choice.Ask}
 use Rattle.cpu.specs.{Table.Choice.{at_pending, at_buffer, section_due, asked_by, asked_at, asked_in, asked, after_call}, Wakeups.Order.block_of}
 use Rattle.event_log.specs.{declared.ids.{CpuId.CpuId, Tid.Tid, BufId.BufId, LockId.{LockId, TheVariants.{Pending, Buffer as AtBuffer}}}, History.same_cpu}
 use Rattle.{event_log.specs.Sections.Section, guest.specs.State.after_yield, thread_blocks.proofs.Members.{same_tid_self, same_tid_true}}
@@ -15,12 +15,13 @@ use Rattle.layer_traits.{specs.Threads.Places.{is_home, is_thread, count_in}, pr
 
 -- The locks' blocks are of their kinds.
 
-pub pending_there : (setup : Setup) (d : CpuId) (past : List (Section Name)) → (list : List Tid) × (block_of setup (Pending d) past ≡ Some (OfPending list))
+pub pending_there : (setup : SystemConfig) (d : CpuId) (past : List (Section Name))
+    → (list : List Tid) × (block_of setup (Pending d) past ≡ Some (OfPending list))
 pending_there setup d =
     blocks_keep (λ o. (list : List Tid) × (o ≡ Some (OfPending list))) edited (opening setup) (Pending d) ([], refl)
     (λ e o before. (_, ap (option_map (edited e)) before.1))
 
-pub no_pending_at_buffer : (setup : Setup) (b : BufId) (past : List (Section Name)) (list : List Tid)
+pub no_pending_at_buffer : (setup : SystemConfig) (b : BufId) (past : List (Section Name)) (list : List Tid)
     → block_of setup (AtBuffer b) past ≡ Some (OfPending list) → ⊥
 no_pending_at_buffer setup b =
     blocks_keep (λ o. (list : List Tid) → o ≡ Some (OfPending list) → ⊥) edited (opening setup) (AtBuffer b)
@@ -28,30 +29,30 @@ no_pending_at_buffer setup b =
 
 -- Another CPU's section.
 
-module _ (setup : Setup) (past : List (Section Name)) (good : Good setup past) (c e : CpuId) (off : same_cpu e c ≡ false)
-    (p : Private) (agrees : Agrees setup c p (λ u. visit setup u past) (λ u. post setup u past)) where
+module _ (setup : SystemConfig) (past : List (Section Name)) (good : Good setup past) (c e : CpuId) (off : same_cpu e c ≡ false)
+    (p : CpuLocal) (agrees : Agrees setup c p (λ u. visit setup u past) (λ u. post setup u past)) where
   foreign_buffer : (d : BufId) (name : Name) → CallersAre setup past e d name
       → Agrees setup c p (λ u. visit setup u (record { cpu = e; lock = AtBuffer d; edit = name } ∷ past))
       (λ u. post setup u (record { cpu = e; lock = AtBuffer d; edit = name } ∷ past))
   foreign_buffer d name callers =
       agrees_foreign setup c p (λ u. visit setup u past) (λ u. visit setup u (record { cpu = e; lock = AtBuffer d; edit = name } ∷ past))
       (λ u. post setup u past) (λ u. post setup u (record { cpu = e; lock = AtBuffer d; edit = name } ∷ past)) agrees
-      (λ u local. grind (arith, false_from_ne_true, and_parts, is_the_caller, local)) (λ u local. grind (
+      (λ u local_is. grind (arith, false_from_ne_true, and_parts, is_the_caller, local_is)) (λ u local_is. grind (
         arith,
         false_from_ne_true,
         sleeps_not_home,
         and_parts,
         is_the_caller,
-        local,
+        local_is,
         moves_at setup past good e d name callers u
             (block_of setup (AtBuffer d) past) refl,
       )) (λ u. grind (arith, moves_at setup past good e d name callers u (block_of setup (AtBuffer d) past) refl))
 
   pending_homes : (d : CpuId) (name : Name) → MayComeTo setup past e d name → (u : Tid) → is_local setup c u ≡ true
       → is_home (post_pending setup d u name (post setup u past)) ≡ is_home (post setup u past)
-  pending_homes d (Pend s) may u local = grind (arith, same_tid_true)
-  pending_homes d TakeAll may u local = grind (arith, false_from_ne_true)
-  pending_homes d name may u local = absurd may
+  pending_homes d (Pend s) may u local_is = grind (arith, same_tid_true)
+  pending_homes d TakeAll may u local_is = grind (arith, false_from_ne_true)
+  pending_homes d name may u local_is = absurd may
 
   foreign_at : (lock : LockId) (name : Name) → MayComeAt setup past e lock name
       → Agrees setup c p (λ u. visit setup u (record { cpu = e; lock = lock; edit = name } ∷ past))
@@ -60,10 +61,11 @@ module _ (setup : Setup) (past : List (Section Name)) (good : Good setup past) (
   foreign_at (Pending d) name may =
       agrees_foreign setup c p (λ u. visit setup u past) (λ u. visit setup u past) (λ u. post setup u past)
       (λ u. post_pending setup d u name (post setup u past)) agrees
-      (λ u local. refl) (λ u local. pending_homes d name may u local) (λ u. grind (arith, same_tid_true, drained_hand, may))
+      (λ u local_is. refl) (λ u local_is. pending_homes d name may u local_is) (λ u. grind (arith, same_tid_true, drained_hand, may))
 
 -- whatever section another CPU ends, this one stays in agreement
-pub foreign_step : (setup : Setup) (past : List (Section Name)) → Good setup past → (c : CpuId) (p : Private) (s : Section Name) → same_cpu s.cpu c ≡ false
+pub foreign_step : (setup : SystemConfig) (past : List (Section Name)) → Good setup past → (c : CpuId) (p : CpuLocal) (s : Section Name)
+    → same_cpu s.cpu c ≡ false
     → MayCome setup past s → Agrees setup c p (λ u. visit setup u past) (λ u. post setup u past)
     → Agrees setup c p (λ u. visit setup u (s ∷ past)) (λ u. post setup u (s ∷ past))
 foreign_step setup past good c p s off may agrees = foreign_at setup past good c s.cpu off p agrees s.lock s.edit may
@@ -71,13 +73,13 @@ foreign_step setup past good c p s off may agrees = foreign_at setup past good c
 -- The CPU's own section.
 
 -- a section that a CPU ends may occur, and leaves the CPU in agreement
-pub record GiveOk (setup : Setup) (past : List (Section Name)) (c : CpuId) (p : Private) (lock : LockId) (name : Name) : Type 0 where
+pub record GiveOk (setup : SystemConfig) (past : List (Section Name)) (c : CpuId) (p : CpuLocal) (lock : LockId) (name : Name) : Type 0 where
   pub may : MayComeAt setup past c lock name
   pub agrees : Agrees setup c (after_reply setup c p (option_map (answer name) (block_of setup lock past)))
       (λ u. visit setup u (record { cpu = c; lock = lock; edit = name } ∷ past)) (λ u. post setup u (record { cpu = c; lock = lock; edit = name } ∷ past))
   pub settled : IsSettled setup c (after_reply setup c p (option_map (answer name) (block_of setup lock past)))
 
-module _ (setup : Setup) (past : List (Section Name)) (good : Good setup past) (c : CpuId) (p : Private)
+module _ (setup : SystemConfig) (past : List (Section Name)) (good : Good setup past) (c : CpuId) (p : CpuLocal)
     (agrees : Agrees setup c p (λ u. visit setup u past) (λ u. post setup u past)) (settled_before : IsSettled setup c p) where
   give_pend : (s : Tid) → p.hand ≡ Some s → GiveOk setup past c p (Pending (home_cpu setup s)) (Pend s)
   give_pend s holds =

@@ -2,12 +2,13 @@
 -- sections may occur after those before it.
 use Rattle.std.proofs.{Common.{ℕ, ◌<◌, ◌≤◌, ◌⊎◌, inl, inr, List, [], ◌∷◌, ◌++◌, if◌then◌else◌, refl, sym, ap, ◌∙◌, subst, arith}, lemmas.Bool.cases_lt}
 use Rattle.event_log.{specs.{declared.ids.CpuId.CpuId, History.own_events, Sections.sections_in, Actions.{Action, cpu_of_action}}, proofs.Same.same_cpu_self}
-use Rattle.{event_log.proofs.Foreign.lawful_before, layer_traits.specs.Polling.Along.{starts, others, steps}, cpu.specs.Table.{Blocks.Name, Setups.Setup}}
-use Rattle.cpu.{specs.{Table.{Setups.Private, Steps.{cpu_step, AlongTable}}, Wakeups.Lost.{IsWorked, CpusLoseNoWakeUp}}, proofs.Wakeups.Lists.refuted}
-use Rattle.cpu.proofs.Wakeups.{Ordered.order_loses_no_wake_up, ReachedStates.{IsFair, IsFairLog, fair_good, Ok, step_ok, ok_beside, ok_at_boot}, Merging.cut}
+use Rattle.{event_log.proofs.Foreign.lawful_before, layer_traits.specs.Polling.Along.{starts, others, steps}, cpu.specs.Table.Blocks.Name}
+use Rattle.cpu.specs.{Table.{Setups.{SystemConfig, CpuLocal}, Steps.{cpu_step, AlongTable}}, Wakeups.Lost.{IsWorked, CpusLoseNoWakeUp}}
+use Rattle.cpu.proofs.Wakeups.{Lists.refuted, Ordered.order_loses_no_wake_up, ReachedStates.{IsFair, IsFairLog, fair_good, Ok, step_ok, ok_beside, ok_at_boot}}
+use Rattle.cpu.proofs.Wakeups.Merging.{cut}
 
 -- along a log whose sections may occur, a CPU agrees with the log
-pub along_ok : (setup : Setup) (c : CpuId) (n : ℕ) (p : Private) (log : List (Action Name))
+pub along_ok : (setup : SystemConfig) (c : CpuId) (n : ℕ) (p : CpuLocal) (log : List (Action Name))
     → AlongTable setup c n p log → IsFairLog setup log → Ok setup c p log
 along_ok setup c n p log starts = λ fair. ok_at_boot setup c
 along_ok setup c n p log (others {n = m} {p = q} {log = past} a along off) =
@@ -18,7 +19,7 @@ along_ok setup c n p log (steps {n = m} {p = q} {log = past} along goes) =
     (step_ok setup c past before q (along_ok setup c m q past along before)).ok
 
 -- the list without its newest action is worked too
-worked_before : (setup : Setup) (a : Action Name) (past : List (Action Name)) → IsWorked setup (a ∷ past) → IsWorked setup past
+worked_before : (setup : SystemConfig) (a : Action Name) (past : List (Action Name)) → IsWorked setup (a ∷ past) → IsWorked setup past
 worked_before setup a past worked = record {
   ran = λ c within.
       let ran = worked.ran c within in
@@ -27,7 +28,7 @@ worked_before setup a past worked = record {
   rest = λ c beyond. grind (arith, worked.rest c beyond);
 }
 
-pub worked_fair : (setup : Setup) (log : List (Action Name)) → IsWorked setup log → IsFairLog setup log
+pub worked_fair : (setup : SystemConfig) (log : List (Action Name)) → IsWorked setup log → IsFairLog setup log
 worked_fair setup [] worked = tt
 worked_fair setup (a ∷ past) worked = by_cpu (cases_lt (cpu_of_action a).0 setup.cpus) (worked_fair setup past (worked_before setup a past worked))
   where

@@ -5,8 +5,8 @@ use Rattle.event_log.specs.declared.ids.{CpuId.CpuId, Tid.Tid, BufId.BufId, Lock
 use Rattle.{event_log.{specs.{History.same_cpu, Sections.sections_in}, proofs.Same.same_cpu_self}, layer_traits.specs.declared.moves.WaitList.WaitList}
 use Rattle.layer_traits.specs.Threads.{ListsAgree.same_list, OnePlace.total, Places.{Where, Home, Hand, IsPending, Asleep, At, is_home, is_hand, one_if}}
 use Rattle.layer_traits.{specs.Threads.Places.count_in, proofs.{CountLemmas.{count_append, count_as_list}, OnePlaceLemmas.{total_at, total_none}}}
-use Rattle.cpu.specs.{Table.{Setups.{Setup, home_cpu}, Steps.{Whole, cpu_numbered}, Worked.buffer_numbered}, Wakeups.{Quiet.HomesExist, OnePlace.queues_in}}
-use Rattle.cpu.specs.Wakeups.OnePlace.{all_of, threads_on_cpu, of_pending, of_buffer, everyone, thread_in, thread_in_whole, is_live, StandInOnePlace}
+use Rattle.cpu.specs.{Table.{Setups.{SystemConfig, home_cpu}, Steps.{SystemState, cpu_numbered}, Worked.buffer_numbered}, Wakeups.Quiet.HomesExist}
+use Rattle.cpu.specs.Wakeups.OnePlace.{queues_in, all_of, threads_on_cpu, of_pending, of_buffer, everyone, thread_in, thread_in_whole, is_live, StandInOnePlace}
 use Rattle.cpu.proofs.Wakeups.{Lists.refuted, PostsAndVisits.{sleeps_in, is_pending, is_local, post, visit, marked}, ThreadAtBuffer.{sleeps_here, marked_none}}
 use Rattle.cpu.proofs.Wakeups.{BuffersAndThreads.Good, Placed.{IsListed, IsPlaced, buffer_there}, Agreement.seat, CpuStep.pending_there}
 use Rattle.cpu.proofs.Wakeups.{ReachedStates.fair_good, SystemInv.{SystemInv, reached_inv, cpu_there}}
@@ -18,7 +18,7 @@ count_all : (t : Tid) (f : ℕ → List Tid) (n : ℕ) → count_in t (all_of f 
 count_all t f zero = refl
 count_all t f (suc n) = count_append t (all_of f n) (f n) ∙ ap (λ m. m + count_in t (f n)) (count_all t f n)
 
-module _ (setup : Setup) (s : Whole) (homes : HomesExist setup) (kept : SystemInv setup s) (u : Tid) where
+module _ (setup : SystemConfig) (s : SystemState) (homes : HomesExist setup) (kept : SystemInv setup s) (u : Tid) where
   good : Good setup (sections_in s.log)
   good = fair_good setup s.log kept.sound.fair
 

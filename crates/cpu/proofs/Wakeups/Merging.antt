@@ -4,13 +4,13 @@ use Rattle.std.proofs.{Common.{arith, length, Some, slice_get, slice_set, zero-a
 use Rattle.std.{proofs.lemmas.List.{length-set, Elements.All-append}, specs.List.All}
 use Rattle.event_log.{specs.{declared.ids.CpuId.CpuId, History.{same_cpu, own_events}, Actions.{Action, cpu_of_action}}, proofs.Same.same_cpu_self}
 use Rattle.{event_log.proofs.ListLemmas.set_else, layer_traits.specs.{declared.steps.Step.TheVariants.Stepped, Polling.Along.{starts, others, steps}}}
-use Rattle.cpu.specs.{Sound.after_steps, Table.{Blocks.Name, Setups.{Setup, Private, boot_of}, Steps.{Whole, AlongTable, boots_from, cpu_numbered, cpu_step}}}
-use Rattle.cpu.{specs.{Table.Steps.{system_step, whole_at_boot}, Wakeups.{Lost.IsWorked, Merged.WorkIsARun}}, proofs.StepTable.ReachedSystems.after_more}
-use Rattle.cpu.proofs.Wakeups.{Lists.{refuted, same_head, same_tail, set_here}, SystemInv.boots_length}
+use Rattle.cpu.specs.{Sound.after_steps, Table.{Blocks.Name, Setups.{SystemConfig, CpuLocal, boot_of}, Steps.{SystemState, AlongTable, boots_from}}}
+use Rattle.cpu.specs.{Table.Steps.{cpu_numbered, cpu_step, system_step, whole_at_boot}, Wakeups.{Lost.IsWorked, Merged.WorkIsARun}}
+use Rattle.cpu.proofs.{StepTable.ReachedSystems.after_more, Wakeups.{Lists.{refuted, same_head, same_tail, set_here}, SystemInv.boots_length}}
 
 -- ---- lists
 
-booted : (setup : Setup) (n k i : ℕ) → i < k → slice_get (boots_from setup n k) i ≡ Some (boot_of setup (cpu_numbered (n + i)))
+booted : (setup : SystemConfig) (n k i : ℕ) → i < k → slice_get (boots_from setup n k) i ≡ Some (boot_of setup (cpu_numbered (n + i)))
 booted setup n zero i below = absurd (omega (arith, below))
 booted setup n (suc k) zero below = let same : n ≡ n + 0 = omega arith in ap (λ m. Some (boot_of setup (cpu_numbered m))) same
 booted setup n (suc k) (suc i) below =
@@ -20,78 +20,80 @@ booted setup n (suc k) (suc i) below =
 -- ---- one system
 
 -- the private states and the list that the table's steps leave under a schedule
-data Goes (setup : Setup) : List CpuId → List Private → List (Action Name) → Type 0 where
+data Goes (setup : SystemConfig) : List CpuId → List CpuLocal → List (Action Name) → Type 0 where
   boots : Goes setup [] (boots_from setup 0 setup.cpus) []
-  goes : {before : List CpuId} {ps : List Private} {log : List (Action Name)} (c : CpuId) (p : Private) → Goes setup before ps log → c.0 < setup.cpus
+  goes : {before : List CpuId} {ps : List CpuLocal} {log : List (Action Name)} (c : CpuId) (p : CpuLocal) → Goes setup before ps log → c.0 < setup.cpus
       → slice_get ps c.0 ≡ Some p → (cpu_step setup c p log).answer ≡ Stepped
       → Goes setup (before ++ c ∷ []) (slice_set ps c.0 (cpu_step setup c p log).next) ((cpu_step setup c p log).acts ++ log)
 
-abbrev whole : List Private → List (Action Name) → ℕ → ℕ → Whole
+abbrev whole : List CpuLocal → List (Action Name) → ℕ → ℕ → SystemState
 whole cpus log room taken = record { cpus = cpus; log = log; room = room; taken = taken }
 
-one : (setup : Setup) (c : CpuId) (ps : List Private) (log : List (Action Name)) (room taken : ℕ) (p : Private) → slice_get ps c.0 ≡ Some p
+one : (setup : SystemConfig) (c : CpuId) (ps : List CpuLocal) (log : List (Action Name)) (room taken : ℕ) (p : CpuLocal) → slice_get ps c.0 ≡ Some p
     → (cpu_step setup c p log).answer ≡ Stepped → taken < room
     → (system_step setup c (whole ps log room taken)).next
     ≡ whole (slice_set ps c.0 (cpu_step setup c p log).next) ((cpu_step setup c p log).acts ++ log) room (taken + 1)
 one setup c ps log room taken p at stepped live = grind (arith, ne_eqb)
 
-goes_whole : (setup : Setup) (sched : List CpuId) (ps : List Private) (log : List (Action Name)) → Goes setup sched ps log → (room : ℕ) → length sched ≤ room
+goes_whole : (setup : SystemConfig) (sched : List CpuId) (ps : List CpuLocal) (log : List (Action Name)) → Goes setup sched ps log → (room : ℕ)
+    → length sched ≤ room
     → after_steps setup sched (whole_at_boot setup room) ≡ whole ps log room (length sched)
 goes_whole setup sched ps log boots = λ room few. refl
 goes_whole setup sched ps log (goes {before = before} {ps = qs} {log = past} c p way below at stepped) = λ room few.
     let long : length (before ++ c ∷ []) ≡ length before + 1 = length-append before (c ∷ []) in
     after_more setup before c (whole_at_boot setup room)
-    ∙ ap (λ (w : Whole). (system_step setup c w).next) (goes_whole setup before qs past way room (omega (arith, few, long)))
+    ∙ ap (λ (w : SystemState). (system_step setup c w).next) (goes_whole setup before qs past way room (omega (arith, few, long)))
     ∙ one setup c qs past room (length before) p at stepped (omega (arith, few, long))
     ∙ ap (λ (n : ℕ). whole (slice_set qs c.0 (cpu_step setup c p past).next) ((cpu_step setup c p past).acts ++ past) room n) (sym long)
 
-one_known : (setup : Setup) (c : CpuId) → c.0 < setup.cpus → All (λ d. d.0 < setup.cpus) (c ∷ [])
+one_known : (setup : SystemConfig) (c : CpuId) → c.0 < setup.cpus → All (λ d. d.0 < setup.cpus) (c ∷ [])
 one_known setup c below zero d within = below
 one_known setup c below (suc k) d within = absurd (omega (arith, within))
 
-goes_known : (setup : Setup) (sched : List CpuId) (ps : List Private) (log : List (Action Name)) → Goes setup sched ps log → All (λ c. c.0 < setup.cpus) sched
+goes_known : (setup : SystemConfig) (sched : List CpuId) (ps : List CpuLocal) (log : List (Action Name)) → Goes setup sched ps log
+    → All (λ c. c.0 < setup.cpus) sched
 goes_known setup sched ps log boots = λ k d below. absurd (omega (arith, below))
 goes_known setup sched ps log (goes {before = before} {ps = qs} {log = past} c p way below at stepped) =
     All-append (λ (d : CpuId). d.0 < setup.cpus) before (c ∷ []) (goes_known setup before qs past way) (one_known setup c below)
 
-goes_long : (setup : Setup) (sched : List CpuId) (ps : List Private) (log : List (Action Name)) → Goes setup sched ps log → length ps ≡ setup.cpus
+goes_long : (setup : SystemConfig) (sched : List CpuId) (ps : List CpuLocal) (log : List (Action Name)) → Goes setup sched ps log → length ps ≡ setup.cpus
 goes_long setup sched ps log boots = boots_length setup 0 setup.cpus
 goes_long setup sched ps log (goes {before = before} {ps = qs} {log = past} c p way below at stepped) =
     length-set qs c.0 (cpu_step setup c p past).next ∙ goes_long setup before qs past way
 
 -- ---- the steps of one CPU that do no action
 
-pub data Way (setup : Setup) (c : CpuId) (log : List (Action Name)) (from : Private) : Private → Type 0 where
+pub data Way (setup : SystemConfig) (c : CpuId) (log : List (Action Name)) (from : CpuLocal) : CpuLocal → Type 0 where
   stays : Way setup c log from from
-  alone : {p : Private} → Way setup c log from p → (cpu_step setup c p log).answer ≡ Stepped → (cpu_step setup c p log).acts ≡ []
+  alone : {p : CpuLocal} → Way setup c log from p → (cpu_step setup c p log).answer ≡ Stepped → (cpu_step setup c p log).acts ≡ []
       → Way setup c log from (cpu_step setup c p log).next
 
 -- a step does one action of its CPU, or none
 abbrev IsShort : CpuId → List (Action Name) → Type 0
 IsShort c acts = (acts ≡ []) ⊎ ((a : Action Name) × (acts ≡ a ∷ []) × (same_cpu (cpu_of_action a) c ≡ true))
 
-short : (setup : Setup) (c : CpuId) (p : Private) (log : List (Action Name)) → IsShort c (cpu_step setup c p log).acts
+short : (setup : SystemConfig) (c : CpuId) (p : CpuLocal) (log : List (Action Name)) → IsShort c (cpu_step setup c p log).acts
 short setup c p log = grind (arith, same_cpu_self c)
 
 -- the steps of a CPU before the newest action, what that action made of it, and its steps after it
-pub record Cut (setup : Setup) (c : CpuId) (a : Action Name) (past : List (Action Name)) (p : Private) : Type 0 where
-  pub before : Private
+pub record Cut (setup : SystemConfig) (c : CpuId) (a : Action Name) (past : List (Action Name)) (p : CpuLocal) : Type 0 where
+  pub before : CpuLocal
   pub count : ℕ
   pub along : AlongTable setup c count before past
-  pub mid : Private
+  pub mid : CpuLocal
   pub next : ((same_cpu (cpu_of_action a) c ≡ false) × (mid ≡ before))
       ⊎ ((same_cpu (cpu_of_action a) c ≡ true) × ((cpu_step setup c before past).acts ≡ a ∷ []) × ((cpu_step setup c before past).answer ≡ Stepped)
       × (mid ≡ (cpu_step setup c before past).next))
   pub way : Way setup c (a ∷ past) mid p
 
 -- one more step without an action
-longer : (setup : Setup) (c : CpuId) (from q : Private) (log log2 : List (Action Name)) → log ≡ log2 → Way setup c log2 from q
+longer : (setup : SystemConfig) (c : CpuId) (from q : CpuLocal) (log log2 : List (Action Name)) → log ≡ log2 → Way setup c log2 from q
     → (cpu_step setup c q log).answer ≡ Stepped → (cpu_step setup c q log).acts ≡ [] → Way setup c log2 from (cpu_step setup c q log).next
 longer setup c from q log log2 same way taken none =
     subst (λ l. Way setup c log2 from (cpu_step setup c q l).next) (sym same)
     (alone way (subst (λ l. (cpu_step setup c q l).answer ≡ Stepped) same taken) (subst (λ l. (cpu_step setup c q l).acts ≡ []) same none))
 
-pub cut : (setup : Setup) (c : CpuId) (n : ℕ) (p : Private) (log : List (Action Name)) → AlongTable setup c n p log
+pub cut : (setup : SystemConfig) (c : CpuId) (n : ℕ) (p : CpuLocal) (log : List (Action Name)) → AlongTable setup c n p log
     → (a : Action Name) (past : List (Action Name)) → log ≡ a ∷ past → Cut setup c a past p
 cut setup c n p log starts = λ a past is. absurd (cc is)
 cut setup c n p log (others {n = m} {p = q} {log = before} b along off) = λ a past is. record {
@@ -118,10 +120,10 @@ cut setup c n p log (steps {n = m} {p = q} {log = before} along taken) =
           next = e.next;
           way = longer setup c e.mid q before (a ∷ past) same e.way taken none;
         }
-    by_acts (inr own) a past is earlier =
-        let list : own.0 ∷ before ≡ a ∷ past = ap (λ acts. acts ++ before) (sym own.1) ∙ is in
-        let same : before ≡ past = same_tail own.0 a before past list in
-        let head : own.0 ≡ a = same_head own.0 a before past list in
+    by_acts (inr local) a past is earlier =
+        let list : local.0 ∷ before ≡ a ∷ past = ap (λ acts. acts ++ before) (sym local.1) ∙ is in
+        let same : before ≡ past = same_tail local.0 a before past list in
+        let head : local.0 ≡ a = same_head local.0 a before past list in
         record {
           before = q;
           count = m;
@@ -132,7 +134,7 @@ cut setup c n p log (steps {n = m} {p = q} {log = before} along taken) =
         }
 
 -- the steps of a CPU before any action
-from_boot : (setup : Setup) (c : CpuId) (n : ℕ) (p : Private) (log : List (Action Name)) → AlongTable setup c n p log → log ≡ []
+from_boot : (setup : SystemConfig) (c : CpuId) (n : ℕ) (p : CpuLocal) (log : List (Action Name)) → AlongTable setup c n p log → log ≡ []
     → Way setup c [] (boot_of setup c) p
 from_boot setup c n p log starts = λ is. stays
 from_boot setup c n p log (others {n = m} {p = q} {log = before} b along off) = λ is. absurd (cc is)
@@ -143,26 +145,26 @@ from_boot setup c n p log (steps {n = m} {p = q} {log = before} along taken) = �
     by_acts (inl none) is earlier =
         let same : before ≡ [] = ap (λ acts. acts ++ before) (sym none) ∙ is in
         longer setup c (boot_of setup c) q before [] same (earlier same) taken none
-    by_acts (inr own) is earlier = grind arith
+    by_acts (inr local) is earlier = grind arith
 
 -- ---- all CPUs
 
 -- a schedule after which this holds of the private state of each CPU
-record Reached (setup : Setup) (log : List (Action Name)) (R : ℕ → Private → Type 0) : Type 0 where
+record Reached (setup : SystemConfig) (log : List (Action Name)) (R : ℕ → CpuLocal → Type 0) : Type 0 where
   sched : List CpuId
-  ps : List Private
+  ps : List CpuLocal
   way : Goes setup sched ps log
-  all : (k : ℕ) → k < setup.cpus → (p : Private) × (slice_get ps k ≡ Some p) × R k p
+  all : (k : ℕ) → k < setup.cpus → (p : CpuLocal) × (slice_get ps k ≡ Some p) × R k p
 
 -- one CPU has taken steps without an action, and no other has
-record Moved (setup : Setup) (log : List (Action Name)) (ps : List Private) (k : ℕ) (p : Private) : Type 0 where
+record Moved (setup : SystemConfig) (log : List (Action Name)) (ps : List CpuLocal) (k : ℕ) (p : CpuLocal) : Type 0 where
   sched : List CpuId
-  qs : List Private
+  qs : List CpuLocal
   way : Goes setup sched qs log
   here : slice_get qs k ≡ Some p
   others : (i : ℕ) → i ≢ k → slice_get qs i ≡ slice_get ps i
 
-move : (setup : Setup) (log : List (Action Name)) (sched : List CpuId) (ps : List Private) (k : ℕ) (q p : Private) → k < setup.cpus
+move : (setup : SystemConfig) (log : List (Action Name)) (sched : List CpuId) (ps : List CpuLocal) (k : ℕ) (q p : CpuLocal) → k < setup.cpus
     → Goes setup sched ps log → slice_get ps k ≡ Some q → Way setup (cpu_numbered k) log q p → Moved setup log ps k p
 move setup log sched ps k q p below at here stays = record { sched = sched; qs = ps; way = at; here = here; others = λ i off. refl }
 move setup log sched ps k q p below at here (alone {p = r} way stepped none) =
@@ -177,20 +179,21 @@ move setup log sched ps k q p below at here (alone {p = r} way stepped none) =
     }
 
 -- the steps of a CPU from here to its last state
-abbrev FromWay : Setup → List (Action Name) → (ℕ → Private → Type 0) → ℕ → Private → Type 0
-FromWay setup log R k q = (p : Private) × Way setup (cpu_numbered k) log q p × R k p
+abbrev FromWay : SystemConfig → List (Action Name) → (ℕ → CpuLocal → Type 0) → ℕ → CpuLocal → Type 0
+FromWay setup log R k q = (p : CpuLocal) × Way setup (cpu_numbered k) log q p × R k p
 
 -- the first n CPUs have taken their steps
-abbrev Half : Setup → List (Action Name) → (ℕ → Private → Type 0) → ℕ → ℕ → Private → Type 0
+abbrev Half : SystemConfig → List (Action Name) → (ℕ → CpuLocal → Type 0) → ℕ → ℕ → CpuLocal → Type 0
 Half setup log R n k q = (k < n → R k q) × (n ≤ k → FromWay setup log R k q)
 
 -- CPU n has taken its steps too
-gone : (setup : Setup) (log : List (Action Name)) (R : ℕ → Private → Type 0) (n : ℕ) (ps : List Private) (p : Private) (m : Moved setup log ps n p) → R n p
-    → (k : ℕ) → ((q : Private) × (slice_get ps k ≡ Some q) × Half setup log R n k q) → (k ≡ n) ⊎ (k ≡ n → ⊥)
-    → (q : Private) × (slice_get m.qs k ≡ Some q) × Half setup log R (suc n) k q
+gone : (setup : SystemConfig) (log : List (Action Name)) (R : ℕ → CpuLocal → Type 0) (n : ℕ) (ps : List CpuLocal) (p : CpuLocal) (m : Moved setup log ps n p)
+    → R n p
+    → (k : ℕ) → ((q : CpuLocal) × (slice_get ps k ≡ Some q) × Half setup log R n k q) → (k ≡ n) ⊎ (k ≡ n → ⊥)
+    → (q : CpuLocal) × (slice_get m.qs k ≡ Some q) × Half setup log R (suc n) k q
 gone setup log R n ps p m is k at x = grind (arith, m, is, at)
 
-halfway : (setup : Setup) (log : List (Action Name)) (R : ℕ → Private → Type 0) → Reached setup log (FromWay setup log R) → (n : ℕ) → n ≤ setup.cpus
+halfway : (setup : SystemConfig) (log : List (Action Name)) (R : ℕ → CpuLocal → Type 0) → Reached setup log (FromWay setup log R) → (n : ℕ) → n ≤ setup.cpus
     → Reached setup log (Half setup log R n)
 halfway setup log R from zero few = record {
   sched = from.sched;
@@ -206,7 +209,7 @@ halfway setup log R from (suc n) few =
     let m = move setup log r.sched r.ps n x.0 on.0 below r.way x.1 on.1 in
     record { sched = m.sched; ps = m.qs; way = m.way; all = λ k within. gone setup log R n r.ps on.0 m on.2 k (r.all k within) (cases_eq k n) }
 
-ways : (setup : Setup) (log : List (Action Name)) (R : ℕ → Private → Type 0) → Reached setup log (FromWay setup log R) → Reached setup log R
+ways : (setup : SystemConfig) (log : List (Action Name)) (R : ℕ → CpuLocal → Type 0) → Reached setup log (FromWay setup log R) → Reached setup log R
 ways setup log R from =
     let r = halfway setup log R from setup.cpus (omega arith) in
     record { sched = r.sched; ps = r.ps; way = r.way; all = λ k below. let x = r.all k below in (x.0, x.1, x.2.0 below) }
@@ -214,35 +217,35 @@ ways setup log R from =
 -- ---- along the list
 
 -- a CPU has reached its private state along the list, and this holds of it
-abbrev Came : Setup → List (Action Name) → (ℕ → Private → Type 0) → ℕ → Type 0
-Came setup log R k = (n : ℕ) × (p : Private) × AlongTable setup (cpu_numbered k) n p log × R k p
+abbrev Came : SystemConfig → List (Action Name) → (ℕ → CpuLocal → Type 0) → ℕ → Type 0
+Came setup log R k = (n : ℕ) × (p : CpuLocal) × AlongTable setup (cpu_numbered k) n p log × R k p
 
 -- what the newest action makes of a CPU's private state
-abbrev Turn : Setup → Action Name → List (Action Name) → ℕ → Private → Private → Type 0
+abbrev Turn : SystemConfig → Action Name → List (Action Name) → ℕ → CpuLocal → CpuLocal → Type 0
 Turn setup a past k r mid = ((same_cpu (cpu_of_action a) (cpu_numbered k) ≡ false) × (mid ≡ r))
     ⊎ ((same_cpu (cpu_of_action a) (cpu_numbered k) ≡ true) × ((cpu_step setup (cpu_numbered k) r past).acts ≡ a ∷ [])
     × ((cpu_step setup (cpu_numbered k) r past).answer ≡ Stepped) × (mid ≡ (cpu_step setup (cpu_numbered k) r past).next))
 
 -- from here the newest action and the steps after it lead to the CPU's last state
-abbrev Before : Setup → Action Name → List (Action Name) → (ℕ → Private → Type 0) → ℕ → Private → Type 0
-Before setup a past R k r = (mid : Private) × Turn setup a past k r mid × FromWay setup (a ∷ past) R k mid
+abbrev Before : SystemConfig → Action Name → List (Action Name) → (ℕ → CpuLocal → Type 0) → ℕ → CpuLocal → Type 0
+Before setup a past R k r = (mid : CpuLocal) × Turn setup a past k r mid × FromWay setup (a ∷ past) R k mid
 
 -- a CPU that did not act is in the same state
-idle : (setup : Setup) (a : Action Name) (past : List (Action Name)) (R : ℕ → Private → Type 0) (k : ℕ) (r : Private) → (k ≡ (cpu_of_action a).0 → ⊥)
+idle : (setup : SystemConfig) (a : Action Name) (past : List (Action Name)) (R : ℕ → CpuLocal → Type 0) (k : ℕ) (r : CpuLocal) → (k ≡ (cpu_of_action a).0 → ⊥)
     → Before setup a past R k r → FromWay setup (a ∷ past) R k r
 idle setup a past R k r off before = grind arith
 
 -- the CPU that acts continues
-acted : (setup : Setup) (a : Action Name) (past : List (Action Name)) (R : ℕ → Private → Type 0) → (cpu_of_action a).0 < setup.cpus
+acted : (setup : SystemConfig) (a : Action Name) (past : List (Action Name)) (R : ℕ → CpuLocal → Type 0) → (cpu_of_action a).0 < setup.cpus
     → Reached setup past (Before setup a past R) → Reached setup (a ∷ past) (FromWay setup (a ∷ past) R)
 acted setup a past R within before = let x = before.all d within in by_turn x.0 x.1 x.2.0 x.2.1 x.2.2
   where
     d : ℕ
     d = (cpu_of_action a).0
 
-    each : (r mid : Private) → mid ≡ (cpu_step setup (cpu_of_action a) r past).next → slice_get before.ps d ≡ Some r → FromWay setup (a ∷ past) R d mid
+    each : (r mid : CpuLocal) → mid ≡ (cpu_step setup (cpu_of_action a) r past).next → slice_get before.ps d ≡ Some r → FromWay setup (a ∷ past) R d mid
         → (k : ℕ) → k < setup.cpus → (k ≡ d) ⊎ (k ≡ d → ⊥)
-        → (q : Private) × (slice_get (slice_set before.ps d (cpu_step setup (cpu_of_action a) r past).next) k ≡ Some q) × FromWay setup (a ∷ past) R k q
+        → (q : CpuLocal) × (slice_get (slice_set before.ps d (cpu_step setup (cpu_of_action a) r past).next) k ≡ Some q) × FromWay setup (a ∷ past) R k q
     each r mid is at on k below (inl same) = (
       mid,
       subst (λ i. slice_get (slice_set before.ps d (cpu_step setup (cpu_of_action a) r past).next) i ≡ Some mid) (sym same)
@@ -256,7 +259,7 @@ acted setup a past R within before = let x = before.all d within in by_turn x.0 
           idle setup a past R k x.0 off x.2,
         )
 
-    by_turn : (r : Private) → slice_get before.ps d ≡ Some r → (mid : Private) → Turn setup a past d r mid → FromWay setup (a ∷ past) R d mid
+    by_turn : (r : CpuLocal) → slice_get before.ps d ≡ Some r → (mid : CpuLocal) → Turn setup a past d r mid → FromWay setup (a ∷ past) R d mid
         → Reached setup (a ∷ past) (FromWay setup (a ∷ past) R)
     by_turn r at mid (inl off) on = refuted off.0 (same_cpu_self (cpu_of_action a))
     by_turn r at mid (inr turn) on = record {
@@ -268,8 +271,8 @@ acted setup a past R within before = let x = before.all d within in by_turn x.0 
       all = λ k below. each r mid turn.3 at on k below (cases_eq k d);
     }
 
-merged : (setup : Setup) (log : List (Action Name)) → ((c : CpuId) → setup.cpus ≤ c.0 → own_events cpu_of_action c log ≡ [])
-    → (R : ℕ → Private → Type 0) → ((k : ℕ) → k < setup.cpus → Came setup log R k) → Reached setup log R
+merged : (setup : SystemConfig) (log : List (Action Name)) → ((c : CpuId) → setup.cpus ≤ c.0 → own_events cpu_of_action c log ≡ [])
+    → (R : ℕ → CpuLocal → Type 0) → ((k : ℕ) → k < setup.cpus → Came setup log R k) → Reached setup log R
 merged setup [] rest R came = ways setup [] R (record {
   sched = [];
   ps = boots_from setup 0 setup.cpus;
@@ -281,7 +284,7 @@ merged setup [] rest R came = ways setup [] R (record {
   );
 })
   where
-    at_zero : (k : ℕ) (p : Private) → Way setup (cpu_numbered k) [] (boot_of setup (cpu_numbered k)) p
+    at_zero : (k : ℕ) (p : CpuLocal) → Way setup (cpu_numbered k) [] (boot_of setup (cpu_numbered k)) p
         → Way setup (cpu_numbered k) [] (boot_of setup (cpu_numbered (0 + k))) p
     at_zero k p way = subst (λ n. Way setup (cpu_numbered k) [] (boot_of setup (cpu_numbered n)) p) (sym (zero-add k)) way
 merged setup (a ∷ past) rest R came = by_cpu (merged setup past earlier (Before setup a past R) before) (cases_lt (cpu_of_action a).0 setup.cpus)
@@ -302,7 +305,7 @@ merged setup (a ∷ past) rest R came = by_cpu (merged setup past earlier (Befor
         (sym (same_cpu_self (cpu_of_action a))) ∙ rest (cpu_of_action a) beyond))
 
 -- the state that each CPU reached along the list
-abbrev Last : (setup : Setup) (log : List (Action Name)) → IsWorked setup log → ℕ → Private → Type 0
+abbrev Last : (setup : SystemConfig) (log : List (Action Name)) → IsWorked setup log → ℕ → CpuLocal → Type 0
 Last setup log worked k p = (below : k < setup.cpus) × (p ≡ (worked.ran (cpu_numbered k) below).last)
 
 pub work_is_a_run : WorkIsARun
@@ -312,10 +315,10 @@ work_is_a_run setup log worked =
     record {
       steps = r.sched;
       known = goes_known setup r.sched r.ps log r.way;
-      log_is = λ room few. ap (λ (w : Whole). w.log) (goes_whole setup r.sched r.ps log r.way room few);
-      taken_is = λ room few. ap (λ (w : Whole). w.taken) (goes_whole setup r.sched r.ps log r.way room few);
-      many = λ room few. ap (λ (w : Whole). length w.cpus) (goes_whole setup r.sched r.ps log r.way room few) ∙ goes_long setup r.sched r.ps log r.way;
+      log_is = λ room few. ap (λ (w : SystemState). w.log) (goes_whole setup r.sched r.ps log r.way room few);
+      taken_is = λ room few. ap (λ (w : SystemState). w.taken) (goes_whole setup r.sched r.ps log r.way room few);
+      many = λ room few. ap (λ (w : SystemState). length w.cpus) (goes_whole setup r.sched r.ps log r.way room few) ∙ goes_long setup r.sched r.ps log r.way;
       cpus_are = λ room few c below.
           let x = r.all c.0 below in
-          (x.2.0, ap (λ (w : Whole). slice_get w.cpus c.0) (goes_whole setup r.sched r.ps log r.way room few) ∙ x.1 ∙ ap Some x.2.1);
+          (x.2.0, ap (λ (w : SystemState). slice_get w.cpus c.0) (goes_whole setup r.sched r.ps log r.way room few) ∙ x.1 ∙ ap Some x.2.1);
     }

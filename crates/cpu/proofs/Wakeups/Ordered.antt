@@ -3,15 +3,15 @@ use Rattle.std.proofs.Common.{◌≡◌, Bool, true, false, List, [], ◌∷◌,
 use Rattle.std.proofs.lemmas.Bool.{and_from, lt-ltb, or_right}
 use Rattle.event_log.specs.{declared.{ids.{BufId.BufId, LockId.TheVariants.Buffer as AtBuffer}, entries.Kind.Kind}, Messages.Message, Runs.{Sends, Receives}}
 use Rattle.{event_log.{specs.{Runs.group_of, History.same_lock, Sections.Section}, proofs.Same.same_lock_true}, cpu.specs.Table.Blocks.{Buffer, OfBuffer, Name}}
-use Rattle.cpu.specs.{Table.{Edits.{edited, front_may_go, is_due, on_side}, Setups.Setup}, Wakeups.Order.{Progress, progress, progress_by, block_of}}
-use Rattle.cpu.{specs.Wakeups.{Order.{KeepsOrderAt, IsInOrder}, Lost.{Allows, NoWakeUpIsLost, OrderLosesNoWakeUp}}, proofs.Wakeups.{Lists.refuted, Awake.Fits}}
-use Rattle.{cpu.proofs.Wakeups.Awake.{IsAwake, stays_awake, IsCalm}, layer_traits.specs.declared.locked.Side.Side}
+use Rattle.cpu.specs.{Table.{Edits.{edited, front_may_go, is_due, on_side}, Setups.SystemConfig}, Wakeups.Order.{Progress, progress, progress_by, block_of}}
+use Rattle.cpu.{specs.Wakeups.{Order.{KeepsOrderAt, IsInOrder}, Lost.{Allows, NoWakeUpIsLost, OrderLosesNoWakeUp}}, proofs.Wakeups.Lists.refuted}
+use Rattle.{cpu.proofs.Wakeups.Awake.{Coupled, IsAwake, stays_awake, IsQuiescent}, layer_traits.specs.declared.locked.Side.Side}
 
 pub same_buffer : (k now : Buffer) → Some (OfBuffer k) ≡ Some (OfBuffer now) → k ≡ now
 same_buffer k now is = cc
 
 -- after sections in their order each buffer is awake
-pub buffer_awake : (setup : Setup) (sections : List (Section Name)) → IsInOrder setup sections → (b : BufId) (k : Buffer)
+pub buffer_awake : (setup : SystemConfig) (sections : List (Section Name)) → IsInOrder setup sections → (b : BufId) (k : Buffer)
     → block_of setup (AtBuffer b) sections ≡ Some (OfBuffer k) → IsAwake k (progress setup (AtBuffer b) sections)
 buffer_awake setup [] order b k is = grind (arith, same_buffer, is)
 buffer_awake setup (s ∷ past) order b k is = by_test (same_lock (AtBuffer b) s.lock) refl is (buffer_awake setup past order.1 b)
@@ -35,16 +35,16 @@ pub allowed_goes : (side : Side) (k : Buffer) (e : Kind) (m : Message) → group
 allowed_goes side k e m given allowed = grind (arith, or_right, lt-ltb, some_items)
 
 -- no thread is due on a side of a calm buffer
-pub calm_on : (k : Buffer) → IsCalm k → (side : Side) → is_due side k ≡ false
-calm_on k calm side = grind arith
+pub quiescent_on : (k : Buffer) → IsQuiescent k → (side : Side) → is_due side k ≡ false
+quiescent_on k quiescent side = grind arith
 
 -- a buffer that is awake, with a free lock, has lost no wake-up
-pub calm_loses_nothing : (k : Buffer) (g : Progress) → IsAwake k g → NoWakeUpIsLost k
-calm_loses_nothing k g awake = record {
+pub quiescent_loses_nothing : (k : Buffer) (g : Progress) → IsAwake k g → NoWakeUpIsLost k
+quiescent_loses_nothing k g awake = record {
   on = λ side free t m is there e asks allowed.
-      refuted (calm_on k (subst (Fits k) (awake.idle free).0 awake.fits) side)
+      refuted (quiescent_on k (subst (Coupled k) (awake.idle free).0 awake.coupled) side)
       (and_from _ (front_may_go side k) (grind (arith, is, there)) (allowed_goes side k e m asks allowed));
 }
 
 pub order_loses_no_wake_up : OrderLosesNoWakeUp
-order_loses_no_wake_up setup sections order b k is = calm_loses_nothing k (progress setup (AtBuffer b) sections) (buffer_awake setup sections order b k is)
+order_loses_no_wake_up setup sections order b k is = quiescent_loses_nothing k (progress setup (AtBuffer b) sections) (buffer_awake setup sections order b k is)

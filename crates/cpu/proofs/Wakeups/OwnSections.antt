@@ -7,11 +7,11 @@ use Rattle.{thread_blocks.proofs.Members.same_tid_self, layer_traits.specs.decla
 use Rattle.layer_traits.specs.{declared.moves.WaitList.WaitList, Threads.Places.{Where, Home, Asleep, At, is_thread, count_in}, Blocks.BufferBlocks.may_join}
 use Rattle.{layer_traits.proofs.CountLemmas.{count_append, not_counted}, cpu.specs.Table.Blocks.{Buffer, Name, AcqQ, Enter, TryPut, TryTake, Shut, WaitOn}}
 use Rattle.cpu.specs.Table.{Blocks.{SigRecv, SigSend, RelQ}, Edits.{acquired, line_on, lined_up, waiting, released, edited_buffer, answer_of_acquire}}
-use Rattle.cpu.specs.{Table.{Edits.answer_of_buffer, Setups.Setup}, Wakeups.Order.{Progress, Begins, HasEntered, WasRefused, Owes, progress_after, MayEdit}}
-use Rattle.cpu.proofs.Wakeups.{Lists.{refuted, first_is}, PostsAndVisits.{Waiting, Visit, In, is_buffer, sleeps_in, list_of, names, goes_on}}
-use Rattle.cpu.proofs.Wakeups.PostsAndVisits.{is_inside, stands, is_lined, InStep, caller_in, is_caller, waiters_of, post_woken, post_slept, post_moved}
-use Rattle.cpu.proofs.Wakeups.{PostsAndVisits.{acquired_visit, next_visit, visit_moved, IsDue, marked}, ThreadAtBuffer.{Pair, paired, marked_none, marked_most}}
-use Rattle.cpu.proofs.Wakeups.ThreadAtBuffer.{buffer_self, sleeps_here, grown_list, first_left, signal_left, front_counted, woken_sleeps}
+use Rattle.cpu.specs.{Table.{Edits.answer_of_buffer, Setups.SystemConfig}, Wakeups.Order.{Progress, Begins, HasEntered, WasRefused, Owes, progress_after}}
+use Rattle.cpu.{specs.Wakeups.Order.MayEdit, proofs.Wakeups.{Lists.{refuted, first_is}, PostsAndVisits.{Waiting, Visit, In, is_buffer, sleeps_in, list_of}}}
+use Rattle.cpu.proofs.Wakeups.PostsAndVisits.{names, goes_on, is_inside, stands, is_lined, InStep, caller_in, is_caller, waiters_of, post_woken, post_slept}
+use Rattle.cpu.proofs.Wakeups.{PostsAndVisits.{post_moved, acquired_visit, next_visit, visit_moved, IsDue, marked}, ThreadAtBuffer.{Pair, paired, marked_none}}
+use Rattle.cpu.proofs.Wakeups.ThreadAtBuffer.{marked_most, buffer_self, sleeps_here, grown_list, first_left, signal_left, front_counted, woken_sleeps}
 use Rattle.layer_traits.specs.declared.moves.WaitList.TheVariants as wait_list
 
 not_outside : (b : BufId) (t : Tid) (k : Buffer) (g : Progress) (visit : Visit) → goes_on visit ≡ false → Pair b t k g visit Home → k.busy ≢ Some t
@@ -75,7 +75,7 @@ module _ (b : BufId) (u : Tid) where
   own_at (AcqQ t) k g visit is idle may due pair =
       subst (λ v. IsDue b (AcqQ v) visit → Pair b u (acquired v k.busy k) g (acquired_visit b visit)
       (if (answer_of_acquire k.busy).slept then Asleep (At (AtBuffer b) wait_list.Sleepers) else Home))
-      (same_Some u t (sym is)) (λ own. own_acquire k g k.busy visit refl idle own pair) due
+      (same_Some u t (sym is)) (λ local. own_acquire k g k.busy visit refl idle local pair) due
   own_at (Enter t side) k g (In d Begins) is idle may due pair =
       let at_b : Pair b u k g (In b Begins) Home = subst (λ x. Pair b u k g (In x Begins) Home) due pair in
       let same : u ≡ t = same_Some u t (sym is) in
@@ -102,7 +102,8 @@ module _ (b : BufId) (u : Tid) where
       false_from_ne_true (is_thread u (answer_of_buffer name k).woke) (λ on. absurd (cc (woken_sleeps b u k g visit Home pair name on).1))
 
   -- the caller's own section keeps the pair
-  pub own_pair : (setup : Setup) (c : CpuId) (name : Name) (k : Buffer) (g : Progress) (visit : Visit) (post : Where) → caller_in name ≡ Some u → post ≡ Home
+  pub own_pair : (setup : SystemConfig) (c : CpuId) (name : Name) (k : Buffer) (g : Progress) (visit : Visit) (post : Where) → caller_in name ≡ Some u
+      → post ≡ Home
       → (k.busy ≡ None → g ≡ Begins) → MayEdit name k g → IsDue b name visit → Pair b u k g visit post
       → Pair b u (edited_buffer name k) (progress_after name k g) (visit_moved b u name k visit)
       (post_moved setup c b u name (answer_of_buffer name k).slept (answer_of_buffer name k).woke post)

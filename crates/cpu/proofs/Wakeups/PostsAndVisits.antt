@@ -7,7 +7,7 @@ use Rattle.{event_log.specs.{History.{same_cpu, same_lock}, Sections.Section}, t
 use Rattle.layer_traits.specs.{declared.{locked.Side.{Side, TheVariants.{Receivers, Senders}}, moves.WaitList.WaitList}, Threads.ListsAgree.is_at}
 use Rattle.layer_traits.specs.Threads.Places.{Where, Home, Hand, IsPending, Asleep, At, wait_channel_of, is_thread, one_if}
 use Rattle.cpu.specs.Table.Blocks.{Buffer, Block, OfBuffer, Name, AcqQ, Enter, TryPut, TryTake, Shut, WaitOn, SigRecv, SigSend, RelQ, Pend, TakeAll}
-use Rattle.cpu.specs.{Table.{Edits.answer_of_buffer, Setups.{Setup, home_cpu}}, Wakeups.Order.{Progress, Begins, HasEntered, WasRefused, Owes, MayTry}}
+use Rattle.cpu.specs.{Table.{Edits.answer_of_buffer, Setups.{SystemConfig, home_cpu}}, Wakeups.Order.{Progress, Begins, HasEntered, WasRefused, Owes, MayTry}}
 use Rattle.cpu.specs.Wakeups.Order.{progress_after, block_of}
 use Rattle.layer_traits.specs.declared.moves.WaitList.TheVariants as wait_list
 
@@ -123,33 +123,33 @@ abbrev pub post_by : Bool → CpuId → Where
 post_by here c = if here then Home else Hand c
 
 -- a woken thread is at `Home` at once, or in the hand of the CPU that woke it
-abbrev pub post_woken : Setup → CpuId → Tid → Where
+abbrev pub post_woken : SystemConfig → CpuId → Tid → Where
 post_woken setup c u = post_by (same_cpu (home_cpu setup u) c) c
 
 abbrev pub post_slept : BufId → Tid → Name → Bool → Where → Where
 post_slept b u name slept x = if slept && is_caller u name then waiters_of b name else x
 
-abbrev pub post_moved : Setup → CpuId → BufId → Tid → Name → Bool → Option Tid → Where → Where
+abbrev pub post_moved : SystemConfig → CpuId → BufId → Tid → Name → Bool → Option Tid → Where → Where
 post_moved setup c b u name slept woke x = if is_thread u woke then post_woken setup c u else post_slept b u name slept x
 
 abbrev pub post_drained : Where → Where
 post_drained (IsPending q) = Home
 post_drained x = x
 
-abbrev pub post_pending : Setup → CpuId → Tid → Name → Where → Where
+abbrev pub post_pending : SystemConfig → CpuId → Tid → Name → Where → Where
 post_pending setup d u (Pend s) x = if same_tid s u then IsPending d else x
 post_pending setup d u TakeAll x = if same_cpu (home_cpu setup u) d then post_drained x else x
 post_pending setup d u name x = x
 
-abbrev pub post_buffer : Setup → CpuId → BufId → Tid → Name → Option Block → Where → Where
+abbrev pub post_buffer : SystemConfig → CpuId → BufId → Tid → Name → Option Block → Where → Where
 post_buffer setup c b u name (Some (OfBuffer k)) x = post_moved setup c b u name (answer_of_buffer name k).slept (answer_of_buffer name k).woke x
 post_buffer setup c b u name given x = x
 
-abbrev pub post_at : Setup → CpuId → LockId → Tid → Name → Option Block → Where → Where
+abbrev pub post_at : SystemConfig → CpuId → LockId → Tid → Name → Option Block → Where → Where
 post_at setup c (AtBuffer b) u name o x = post_buffer setup c b u name o x
 post_at setup c (Pending d) u name o x = post_pending setup d u name x
 
-abbrev pub post : Setup → Tid → List (Section Name) → Where
+abbrev pub post : SystemConfig → Tid → List (Section Name) → Where
 post setup u [] = Home
 post setup u (s ∷ past) = post_at setup s.cpu s.lock u s.edit (block_of setup s.lock past) (post setup u past)
 
@@ -181,7 +181,7 @@ abbrev pub visit_at : LockId → Tid → Name → Option Block → Visit → Vis
 visit_at (AtBuffer b) u name o visit = visit_buffer b u name o visit
 visit_at (Pending d) u name o visit = visit
 
-abbrev pub visit : Setup → Tid → List (Section Name) → Visit
+abbrev pub visit : SystemConfig → Tid → List (Section Name) → Visit
 visit setup u [] = Outside
 visit setup u (s ∷ past) = visit_at s.lock u s.edit (block_of setup s.lock past) (visit setup u past)
 
@@ -202,30 +202,30 @@ IsDue b (RelQ t) (In d (Owes receivers senders)) = (d ≡ b) × (receivers ≡ f
 IsDue b name visit = ⊥
 
 -- the thread's home is this CPU
-abbrev pub is_local : Setup → CpuId → Tid → Bool
+abbrev pub is_local : SystemConfig → CpuId → Tid → Bool
 is_local setup c u = same_cpu (home_cpu setup u) c && nat_lt u.0 (length setup.homes)
 
 -- the caller of a section runs on its CPU, and the section is due to it
-pub record IsCallers (setup : Setup) (c : CpuId) (b : BufId) (name : Name) (t : Tid) (post : Where) (visit : Visit) : Type 0 where
-  pub local : is_local setup c t ≡ true
+pub record IsCallers (setup : SystemConfig) (c : CpuId) (b : BufId) (name : Name) (t : Tid) (post : Where) (visit : Visit) : Type 0 where
+  pub local_is : is_local setup c t ≡ true
   pub here : post ≡ Home
   pub due : IsDue b name visit
 
-abbrev pub MayComeBy : Setup → List (Section Name) → CpuId → BufId → Name → Option Tid → Type 0
+abbrev pub MayComeBy : SystemConfig → List (Section Name) → CpuId → BufId → Name → Option Tid → Type 0
 MayComeBy setup past c b name None = ⊥
 MayComeBy setup past c b name (Some t) = IsCallers setup c b name t (post setup t past) (visit setup t past)
 
-abbrev pub MayComeTo : Setup → List (Section Name) → CpuId → CpuId → Name → Type 0
+abbrev pub MayComeTo : SystemConfig → List (Section Name) → CpuId → CpuId → Name → Type 0
 MayComeTo setup past c d (Pend s) = (post setup s past ≡ Hand c) × (home_cpu setup s ≡ d)
 MayComeTo setup past c d TakeAll = c ≡ d
 MayComeTo setup past c d name = ⊥
 
-abbrev pub MayComeAt : Setup → List (Section Name) → CpuId → LockId → Name → Type 0
+abbrev pub MayComeAt : SystemConfig → List (Section Name) → CpuId → LockId → Name → Type 0
 MayComeAt setup past c (AtBuffer b) name = MayComeBy setup past c b name (caller_in name)
 MayComeAt setup past c (Pending d) name = MayComeTo setup past c d name
 
 -- the section may occur: the table does no other
-abbrev pub MayCome : Setup → List (Section Name) → Section Name → Type 0
+abbrev pub MayCome : SystemConfig → List (Section Name) → Section Name → Type 0
 MayCome setup past s = MayComeAt setup past s.cpu s.lock s.edit
 
 -- how often a thread is in a list whose threads bear a mark; a number that is no thread's is in

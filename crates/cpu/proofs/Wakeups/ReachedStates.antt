@@ -7,8 +7,8 @@ use Rattle.event_log.specs.{declared.ids.{CpuId.CpuId, Tid.Tid, LockId.LockId}, 
 use Rattle.event_log.{specs.Actions.{Give, Phase, Rests, Waits, Holds, phase, cpu_of_action, action_in}, proofs.Same.same_cpu_true}
 use Rattle.{event_log.proofs.{Exclusion.{phase_own, phase_other}, ListLemmas.set_else}, layer_traits.specs.declared.steps.Step.TheVariants.Stepped}
 use Rattle.layer_traits.specs.{Threads.{Places.{one_if, count_in}, Passes.or_else}, Polling.{Plans.{is_in_section, at_give}, Along.Outcome}}
-use Rattle.cpu.specs.Table.{Blocks.Name, Edits.answer, Setups.{Setup, Private, home_threads_from, boot_of}, Choice.{asked, choice}}
-use Rattle.cpu.specs.Table.Steps.{after_reply, step_in, cpu_step, Whole, cpu_numbered, boots_from, whole_at_boot, whole_after, step_at}
+use Rattle.cpu.specs.Table.{Blocks.Name, Edits.answer, Setups.{SystemConfig, CpuLocal, home_threads_from, boot_of}, Choice.{asked, choice}}
+use Rattle.cpu.specs.Table.Steps.{after_reply, step_in, cpu_step, SystemState, cpu_numbered, boots_from, whole_at_boot, whole_after, step_at}
 use Rattle.cpu.specs.{Table.Steps.{system_step, IsReached, boots, steps_once, acting}, Wakeups.{Order.block_of, Lost.{SystemsKeepOrder, SystemsLoseNoWakeUp}}}
 use Rattle.cpu.{specs.Wakeups.Lost.FreeLocksHaveNoSleepers, proofs.Wakeups.{Lists.refuted, Ordered.{buffer_awake, order_loses_no_wake_up}, PostsAndVisits.post}}
 use Rattle.cpu.proofs.Wakeups.{PostsAndVisits.{visit, MayComeAt}, BuffersAndThreads.{Good, good_none, good_step}, Agreement.{Agrees, IsSettled}}
@@ -18,14 +18,14 @@ pub use Rattle.cpu.proofs.Wakeups.EndedThreads.{all_new}
 -- Logs of actions.
 
 -- an action that ends a section ends one that may occur
-abbrev pub IsFair : Setup → List (Action Name) → Action Name → Type 0
+abbrev pub IsFair : SystemConfig → List (Action Name) → Action Name → Type 0
 IsFair setup past (Give cpu lock name) = MayComeAt setup (sections_in past) cpu lock name
 IsFair setup past other = Unit {0}
 
-abbrev pub IsFairLog : Setup → List (Action Name) → Type 0
+abbrev pub IsFairLog : SystemConfig → List (Action Name) → Type 0
 IsFairLog setup log = IsLawful (IsFair setup) log
 
-pub fair_good : (setup : Setup) (log : List (Action Name)) → IsFairLog setup log → Good setup (sections_in log)
+pub fair_good : (setup : SystemConfig) (log : List (Action Name)) → IsFairLog setup log → Good setup (sections_in log)
 fair_good setup [] fair = good_none setup
 fair_good setup (Take cpu lock ∷ past) fair = fair_good setup past fair.1
 fair_good setup (Try cpu lock hit ∷ past) fair = fair_good setup past fair.1
@@ -39,7 +39,7 @@ lock_in (Waits lock) = Some lock
 lock_in (Holds lock) = Some lock
 
 -- a CPU agrees with the log, and is at the lock of the section that it requests
-pub record Ok (setup : Setup) (c : CpuId) (p : Private) (log : List (Action Name)) : Type 0 where
+pub record Ok (setup : SystemConfig) (c : CpuId) (p : CpuLocal) (log : List (Action Name)) : Type 0 where
   pub agrees : Agrees setup c p (λ u. visit setup u (sections_in log)) (λ u. post setup u (sections_in log))
   pub settled : IsSettled setup c p
   pub under : (lock : LockId) → lock_in (phase c log) ≡ Some lock → lock ≡ (asked setup c p).lock
@@ -54,21 +54,21 @@ abbrev pub AllDo : CpuId → List (Action Name) → Type 0
 AllDo c [] = Unit {0}
 AllDo c (a ∷ acts) = (cpu_of_action a ≡ c) × AllDo c acts
 
-pub record StepOk (setup : Setup) (c : CpuId) (log : List (Action Name)) (o : Outcome Private Name) : Type 0 where
+pub record StepOk (setup : SystemConfig) (c : CpuId) (log : List (Action Name)) (o : Outcome CpuLocal Name) : Type 0 where
   pub fair : IsFairLog setup (o.acts ++ log)
   pub ok : Ok setup c o.next (o.acts ++ log)
   pub does : AllDo c o.acts
 
-module _ (setup : Setup) (c : CpuId) (log : List (Action Name)) (fair : IsFairLog setup log) where
+module _ (setup : SystemConfig) (c : CpuId) (log : List (Action Name)) (fair : IsFairLog setup log) where
   -- the action that is due to a CPU in this phase, and what it leaves
-  abbrev acted : Private → Phase → Outcome Private Name
+  abbrev acted : CpuLocal → Phase → Outcome CpuLocal Name
   acted q now = record {
     next = after_reply setup c q (at_give now (option_map (answer (asked setup c q).name) (block_of setup (asked setup c q).lock (sections_in log))));
     acts = action_in c (asked setup c q).lock (asked setup c q).name log now ∷ [];
     answer = Stepped;
   }
 
-  acted_ok : (q : Private) → Ok setup c q log → (now : Phase) → phase c log ≡ now → StepOk setup c log (acted q now)
+  acted_ok : (q : CpuLocal) → Ok setup c q log → (now : Phase) → phase c log ≡ now → StepOk setup c log (acted q now)
   acted_ok q ok Rests is = grind (arith, phase_own)
   acted_ok q ok (Waits there) is = grind (arith, phase_own)
   acted_ok q ok (Holds there) is =
@@ -84,7 +84,7 @@ module _ (setup : Setup) (c : CpuId) (log : List (Action Name)) (fair : IsFairLo
         does = (refl, tt);
       })
 
-  pub step_ok : (p : Private) → Ok setup c p log → StepOk setup c log (cpu_step setup c p log)
+  pub step_ok : (p : CpuLocal) → Ok setup c p log → StepOk setup c log (cpu_step setup c p log)
   step_ok p ok = by_section (is_in_section (phase c log)) refl
     where
       by_section : (inside : Bool) → is_in_section (phase c log) ≡ inside → StepOk setup c log (step_in setup c p log inside)
@@ -92,13 +92,13 @@ module _ (setup : Setup) (c : CpuId) (log : List (Action Name)) (fair : IsFairLo
       by_section false is = grind (arith, choice_ok setup c p _ _ ok.agrees ok.settled, acted_ok)
 
 -- what a CPU's choice keeps, and its actions keep if its state agrees, its step keeps
-pub step_keeps : (setup : Setup) (c : CpuId) (p : Private) (log : List (Action Name)) (Q : Private → Type 0) → Ok setup c p log → Q p
-    → OfChoice Q (choice setup c p) → ((q : Private) → Agrees setup c q (λ u. visit setup u (sections_in log)) (λ u. post setup u (sections_in log))
+pub step_keeps : (setup : SystemConfig) (c : CpuId) (p : CpuLocal) (log : List (Action Name)) (Q : CpuLocal → Type 0) → Ok setup c p log → Q p
+    → OfChoice Q (choice setup c p) → ((q : CpuLocal) → Agrees setup c q (λ u. visit setup u (sections_in log)) (λ u. post setup u (sections_in log))
     → Q q → Q (acting setup c q log).next) → Q (cpu_step setup c p log).next
 step_keeps setup c p log Q ok now chosen acts = grind (arith, choice_ok)
 
 -- an action of another CPU
-pub ok_beside : (setup : Setup) (e : CpuId) (p : Private) (log : List (Action Name)) (a : Action Name) → same_cpu (cpu_of_action a) e ≡ false
+pub ok_beside : (setup : SystemConfig) (e : CpuId) (p : CpuLocal) (log : List (Action Name)) (a : Action Name) → same_cpu (cpu_of_action a) e ≡ false
     → IsFairLog setup log → IsFair setup log a → Ok setup e p log → Ok setup e p (a ∷ log)
 ok_beside setup e p log (Give cpu lock name) off fair may ok = record {
   agrees = foreign_step setup (sections_in log) (fair_good setup log fair) e p (record { cpu = cpu; lock = lock; edit = name }) off may ok.agrees;
@@ -107,7 +107,7 @@ ok_beside setup e p log (Give cpu lock name) off fair may ok = record {
 }
 ok_beside setup e p log a off fair may ok = grind (arith, phase_other)
 
-pub all_beside : (setup : Setup) (c e : CpuId) (p : Private) (log acts : List (Action Name)) → same_cpu c e ≡ false → AllDo c acts
+pub all_beside : (setup : SystemConfig) (c e : CpuId) (p : CpuLocal) (log acts : List (Action Name)) → same_cpu c e ≡ false → AllDo c acts
     → IsFairLog setup (acts ++ log) → Ok setup e p log → Ok setup e p (acts ++ log)
 all_beside setup c e p log [] off does fair ok = ok
 all_beside setup c e p log (a ∷ acts) off does fair ok =
@@ -137,36 +137,36 @@ homed_at c (home ∷ homes) i (suc k) u at = by_test (same_cpu home c) (homed_at
         ≡ one_if (same_cpu (or_else (record { 0 = 0 }) (slice_get homes k)) c && nat_lt (suc k) (length (home ∷ homes)))
     by_test here more = grind (arith, ne_eqb, ltb-true, lt-ltb, ltb-false, le-ltb)
 
-pub ok_at_boot : (setup : Setup) (c : CpuId) → Ok setup c (boot_of setup c) []
+pub ok_at_boot : (setup : SystemConfig) (c : CpuId) → Ok setup c (boot_of setup c) []
 ok_at_boot setup c = grind (arith, length-map, all_new, homed_at, and-true, refuted)
 
 -- Systems.
 
-pub record Sound (setup : Setup) (s : Whole) : Type 0 where
+pub record Sound (setup : SystemConfig) (s : SystemState) : Type 0 where
   pub fair : IsFairLog setup s.log
-  pub cpus : (e : CpuId) (p : Private) → slice_get s.cpus e.0 ≡ Some p → Ok setup e p s.log
+  pub cpus : (e : CpuId) (p : CpuLocal) → slice_get s.cpus e.0 ≡ Some p → Ok setup e p s.log
 
-pub same_private : (p q : Private) → Some p ≡ Some q → p ≡ q
-same_private p q is = cc
+pub same_cpu_local : (p q : CpuLocal) → Some p ≡ Some q → p ≡ q
+same_cpu_local p q is = cc
 
 -- the elements of a list after one of its items was set
-pub get_set : (xs : List Private) (i j : ℕ) (x y : Private) → slice_get (slice_set xs i x) j ≡ Some y → i ≡ j → x ≡ y
-get_set (z ∷ xs) zero zero x y is same = same_private x y is
+pub get_set : (xs : List CpuLocal) (i j : ℕ) (x y : CpuLocal) → slice_get (slice_set xs i x) j ≡ Some y → i ≡ j → x ≡ y
+get_set (z ∷ xs) zero zero x y is same = same_cpu_local x y is
 get_set (z ∷ xs) (suc i) (suc j) x y is same = get_set xs i j x y is (omega (arith, same))
 get_set xs i j x y is same = grind (arith, same)
 
 -- what holds of the CPU whose state was set, and of each other, holds of all
-pub all_set : (P : CpuId → Private → Type 0) (cpus : List Private) (c : CpuId) (x : Private) → P c x
-    → ((e : CpuId) (p : Private) → same_cpu c e ≡ false → slice_get cpus e.0 ≡ Some p → P e p)
-    → (e : CpuId) (p : Private) → slice_get (slice_set cpus c.0 x) e.0 ≡ Some p → P e p
-all_set P cpus c x own others e p is = grind (arith, same_cpu_true, get_set, eqb-true, set_else, eqb-false)
+pub all_set : (P : CpuId → CpuLocal → Type 0) (cpus : List CpuLocal) (c : CpuId) (x : CpuLocal) → P c x
+    → ((e : CpuId) (p : CpuLocal) → same_cpu c e ≡ false → slice_get cpus e.0 ≡ Some p → P e p)
+    → (e : CpuId) (p : CpuLocal) → slice_get (slice_set cpus c.0 x) e.0 ≡ Some p → P e p
+all_set P cpus c x local others e p is = grind (arith, same_cpu_true, get_set, eqb-true, set_else, eqb-false)
 
-pub boots_at : (setup : Setup) (n k i : ℕ) (p : Private) → slice_get (boots_from setup n k) i ≡ Some p → boot_of setup (cpu_numbered (n + i)) ≡ p
+pub boots_at : (setup : SystemConfig) (n k i : ℕ) (p : CpuLocal) → slice_get (boots_from setup n k) i ≡ Some p → boot_of setup (cpu_numbered (n + i)) ≡ p
 boots_at setup n (suc k) (suc i) p is =
     let same : n + suc i ≡ (n + 1) + i = omega arith in ap (λ m. boot_of setup (cpu_numbered m)) same ∙ boots_at setup (n + 1) k i p is
-boots_at setup n k i p is = grind (arith, same_private)
+boots_at setup n k i p is = grind (arith, same_cpu_local)
 
-sound_at_boot : (setup : Setup) (room : ℕ) → Sound setup (whole_at_boot setup room)
+sound_at_boot : (setup : SystemConfig) (room : ℕ) → Sound setup (whole_at_boot setup room)
 sound_at_boot setup room = record {
   fair = tt;
   cpus = λ e p is.
@@ -175,8 +175,8 @@ sound_at_boot setup room = record {
       subst (λ q. Ok setup e q []) at (ok_at_boot setup e);
 }
 
-module _ (setup : Setup) (s : Whole) (sound : Sound setup s) (c : CpuId) where
-  sound_after : (p : Private) → slice_get s.cpus c.0 ≡ Some p → Sound setup (whole_after c s (cpu_step setup c p s.log))
+module _ (setup : SystemConfig) (s : SystemState) (sound : Sound setup s) (c : CpuId) where
+  sound_after : (p : CpuLocal) → slice_get s.cpus c.0 ≡ Some p → Sound setup (whole_after c s (cpu_step setup c p s.log))
   sound_after p here =
       let step = step_ok setup c s.log sound.fair p (sound.cpus c p here) in
       record {
@@ -185,13 +185,13 @@ module _ (setup : Setup) (s : Whole) (sound : Sound setup s) (c : CpuId) where
             (λ e q off at. all_beside setup c e q s.log (cpu_step setup c p s.log).acts off step.does step.fair (sound.cpus e q at));
       }
 
-  sound_at : (o : Option Private) → slice_get s.cpus c.0 ≡ o → Sound setup (step_at setup c s o).next
+  sound_at : (o : Option CpuLocal) → slice_get s.cpus c.0 ≡ o → Sound setup (step_at setup c s o).next
   sound_at o here = grind (arith, sound_after)
 
-pub sound_step : (setup : Setup) (s : Whole) → Sound setup s → (c : CpuId) → Sound setup (system_step setup c s).next
+pub sound_step : (setup : SystemConfig) (s : SystemState) → Sound setup s → (c : CpuId) → Sound setup (system_step setup c s).next
 sound_step setup s sound c = sound_at setup s sound c (slice_get s.cpus c.0) refl
 
-pub reached_sound : (setup : Setup) (room : ℕ) (s : Whole) → IsReached setup room s → Sound setup s
+pub reached_sound : (setup : SystemConfig) (room : ℕ) (s : SystemState) → IsReached setup room s → Sound setup s
 reached_sound setup room s boots = sound_at_boot setup room
 reached_sound setup room s (steps_once {s = before} c reached within) = sound_step setup before (reached_sound setup room before reached) c
 

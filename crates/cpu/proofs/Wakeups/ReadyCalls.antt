@@ -1,6 +1,6 @@
 -- A call that is ready returns after exactly so many steps of its CPU, if no other CPU steps.
-use Rattle.std.proofs.Common.{◌≡◌, ℕ, ◌+◌, ◌<◌, ◌≤◌, Bool, true, false, ◌&&◌, List, [], ◌∷◌, ◌++◌, length, Option, Some, None, if◌then◌else◌, refl}
-use Rattle.std.proofs.{Common.{sym, ap, ◌∙◌, subst, arith, length-append}, lemmas.Bool.{and_from, cases_lt, lt-ltb, or_right}}
+use Rattle.std.proofs.Common.{◌≡◌, ℕ, ◌+◌, ◌<◌, ◌≤◌, Bool, true, false, ◌&&◌, List, [], ◌∷◌, ◌++◌, length, Option, Some, None, if◌then◌else◌, refl, sym, ap}
+use Rattle.std.proofs.{Common.{◌∙◌, subst, arith, length-append}, lemmas.Bool.{and_from, cases_lt, lt-ltb, or_right}}
 use Rattle.event_log.specs.declared.{ids.{CpuId.CpuId, Tid.Tid, BufId.BufId, LockId.TheVariants.Buffer as AtBuffer, TheConstants.THREADS}, entries.Kind.Kind}
 use Rattle.event_log.specs.declared.entries.{Kind.TheVariants.{Send as SendKind, Recv as RecvKind, Close as CloseKind, SendClosed, RecvClosed}, Entry.Entry}
 use Rattle.event_log.specs.{Messages.Message, Runs.{Group, Sends, Receives, Closes, group_of}, Sections.sections_in}
@@ -8,28 +8,29 @@ use Rattle.{guest.specs.declared.instructions.Instruction.Instruction, thread_bl
 use Rattle.layer_traits.specs.declared.{locked.Side.TheVariants.{Receivers, Senders}, call_states.Stage.TheVariants.{Enters, Tries, Signals}}
 use Rattle.{layer_traits.specs.Blocks.BufferBlocks.{is_first, first_item}, cpu.specs.Table.Blocks.{Buffer, OfBuffer, Reported, Done, WasClosed, DidShut}}
 use Rattle.cpu.specs.Table.{Blocks.{NotYet, front, front_stands_in, side_of_group}, Edits.{front_may_go, due_on, lined_up, put, taken, shut_off, report_of_put}}
-use Rattle.cpu.specs.Table.{Edits.{report_of_take, reports, wakes, edited_buffer, answer_of_buffer}, Setups.{Setup, Call, Private, stands_at, home_threads}}
-use Rattle.cpu.specs.Table.{Setups.have_ended, Steps.{Whole, IsReached, block_at, steps_by}, Choice.{Goes, new_call, with_call, at_call, choice, first_signal}}
-use Rattle.cpu.specs.{Table.Choice.{second_signal, effected, entry_made, recorded_try}, Wakeups.{Lost.Allows, Order.progress, Quiet.AreFew, Alone.IsCallOn}}
-use Rattle.cpu.specs.Wakeups.Alone.{HasEmptyLine, IsInCall, IsReady, HasReturned, CallsReturnAlone, first_waiter, steps_to_move, steps_to_return}
-use Rattle.cpu.proofs.Wakeups.{Lists.refuted, Ordered.{buffer_awake, allowed_goes}, Awake.{IsCalm, Fits, IsAwake}, PostsAndVisits.{is_local, post, visit}}
-use Rattle.cpu.proofs.Wakeups.{Agreement.{Agrees, runs_at_home, known_of, local_within}, ReachedStates.{reached_sound, systems_keep_order}}
-use Rattle.cpu.proofs.Wakeups.{ReachedStates.free_locks_have_no_sleepers, FilledHand.reached_filled, WithinCapacity.holds_no_more, CpuAlone.with_new}
-use Rattle.cpu.proofs.Wakeups.CallsAlone.{Gets, Returned, section_acquires, enters_line, section_tries, call_ends_alone}
+use Rattle.cpu.specs.Table.{Edits.{report_of_take, reports, wakes, edited_buffer, answer_of_buffer}, Setups.{SystemConfig, Call, CpuLocal, stands_at}}
+use Rattle.cpu.specs.Table.{Setups.{home_threads, have_ended}, Steps.{SystemState, IsReached, block_at, steps_by}, Choice.{Goes, new_call, with_call, at_call}}
+use Rattle.cpu.specs.{Table.Choice.{choice, first_signal, second_signal, effected, entry_made, recorded_try}, Wakeups.{Lost.Allows, Order.progress}}
+use Rattle.cpu.specs.Wakeups.{Quiet.AreFew, Alone.{IsCallOn, HasEmptyLine, IsInCall, IsReady, HasReturned, CallsReturnAlone, first_waiter, steps_to_move}}
+use Rattle.cpu.{specs.Wakeups.Alone.steps_to_return, proofs.Wakeups.{Lists.refuted, Ordered.{buffer_awake, allowed_goes}, Awake.{IsQuiescent, Coupled}}}
+use Rattle.cpu.proofs.Wakeups.{Awake.IsAwake, PostsAndVisits.{is_local, post, visit}, Agreement.{Agrees, runs_at_home, known_of, local_within}}
+use Rattle.cpu.proofs.Wakeups.{ReachedStates.{reached_sound, systems_keep_order, free_locks_have_no_sleepers}, FilledHand.reached_filled}
+use Rattle.cpu.proofs.Wakeups.{WithinCapacity.holds_no_more, CpuAlone.with_new, CallsAlone.{Gets, Returned, section_acquires, enters_line, section_tries}}
+use Rattle.cpu.proofs.Wakeups.CallsAlone.{call_ends_alone}
 
-module _ (setup : Setup) (room : ℕ) (s : Whole) (c : CpuId) (p : Private) (t : Tid) (few : AreFew setup)
+module _ (setup : SystemConfig) (room : ℕ) (s : SystemState) (c : CpuId) (p : CpuLocal) (t : Tid) (few : AreFew setup)
     (reached : IsReached setup room s) (ready : IsReady setup c s p t) where
   agrees : Agrees setup c p (λ u. visit setup u (sections_in s.log)) (λ u. post setup u (sections_in s.log))
   agrees = ((reached_sound setup room s reached).cpus c p ready.here).agrees
 
-  local : is_local setup c t ≡ true
-  local = (runs_at_home setup c p (λ u. visit setup u (sections_in s.log)) (λ u. post setup u (sections_in s.log)) agrees t ready.runs).0
+  local_is : is_local setup c t ≡ true
+  local_is = (runs_at_home setup c p (λ u. visit setup u (sections_in s.log)) (λ u. post setup u (sections_in s.log)) agrees t ready.runs).0
 
   small : t.0 < THREADS
-  small = let known = known_of setup c t local in let most = few in omega (arith, known, most)
+  small = let known = known_of setup c t local_is in let most = few in omega (arith, known, most)
 
   known : t.0 < length p.threads
-  known = local_within setup c p (λ u. visit setup u (sections_in s.log)) (λ u. post setup u (sections_in s.log)) agrees t local
+  known = local_within setup c p (λ u. visit setup u (sections_in s.log)) (λ u. post setup u (sections_in s.log)) agrees t local_is
 
   empty : p.hand ≡ None
   empty = grind (arith, reached_filled setup room s reached c p ready.here t, refuted)
@@ -66,11 +67,11 @@ module _ (setup : Setup) (room : ℕ) (s : Whole) (c : CpuId) (p : Private) (t :
   told n e b entry is_of back = grind arith
 
   -- no thread is due beside a free lock
-  calm : (b : BufId) (k : Buffer) → block_at setup (AtBuffer b) s.log ≡ Some (OfBuffer k) → k.busy ≡ None → IsCalm k
-  calm b k block free =
+  quiescent : (b : BufId) (k : Buffer) → block_at setup (AtBuffer b) s.log ≡ Some (OfBuffer k) → k.busy ≡ None → IsQuiescent k
+  quiescent b k block free =
       let awake : IsAwake k (progress setup (AtBuffer b) (sections_in s.log)) =
       buffer_awake setup (sections_in s.log) (systems_keep_order setup room s reached) b k block in
-      subst (Fits k) (awake.idle free).0 awake.fits
+      subst (Coupled k) (awake.idle free).0 awake.coupled
 
   -- if the first of a line may continue, a signal wakes it if it waits
   woken_is : (waits can : Bool) (o : Option Tid) → can ≡ true → (if waits && can then o else None) ≡ (if waits then o else None)
@@ -102,7 +103,7 @@ module _ (setup : Setup) (room : ℕ) (s : Whole) (c : CpuId) (p : Private) (t :
     -- a send has its effect, and its signals are due
     sent : (m : Message) (told : Reported) (now : Call) → choice setup c p ≡ Goes (with_call p t (Some (new_call Sends b m)))
         → k.send_line ≡ [] → front_may_go Senders k ≡ true → report_of_put k.closed k.effects m ≡ told → b ≡ now.buffer
-        → ((q : Private) → recorded_try c q t (queued Sends b m k.send_positions) told ≡ effected c q t now k.effects)
+        → ((q : CpuLocal) → recorded_try c q t (queued Sends b m k.send_positions) told ≡ effected c q t now k.effects)
         → Gets setup c t s 9 (put m (lined_up t Senders (record k { busy = Some t }))) (record now { effect = Some k.effects; stage = Signals })
         (p.trace ++ entry_made c t now k.effects now.message ∷ []) 12
     sent m told now goes line can tells_so same_buffer recorded_so =
@@ -117,7 +118,7 @@ module _ (setup : Setup) (room : ℕ) (s : Whole) (c : CpuId) (p : Private) (t :
 
     received : (m : Message) (told : Reported) (now : Call) → choice setup c p ≡ Goes (with_call p t (Some (new_call Receives b m)))
         → k.receive_line ≡ [] → front_may_go Receivers k ≡ true → report_of_take k.items k.effects ≡ told → b ≡ now.buffer
-        → ((q : Private) → recorded_try c q t (queued Receives b m k.receive_positions) told ≡ effected c q t now k.effects)
+        → ((q : CpuLocal) → recorded_try c q t (queued Receives b m k.receive_positions) told ≡ effected c q t now k.effects)
         → Gets setup c t s 9 (taken (lined_up t Receivers (record k { busy = Some t }))) (record now { effect = Some k.effects; stage = Signals })
         (p.trace ++ entry_made c t now k.effects now.message ∷ []) 12
     received m told now goes line can tells_so same_buffer recorded_so =
@@ -192,7 +193,7 @@ module _ (setup : Setup) (room : ℕ) (s : Whole) (c : CpuId) (p : Private) (t :
         (ap (λ d. report_of_put d k.effects begin.0) allowed) refl (λ q. refl) in
         told 18 SendClosed b (entry_made c t now k.effects begin.0) (refl, refl, refl)
         (sent_back begin.0 (record now { effect = Some k.effects }) _ None refl line
-        (grind (arith, (calm b k block free).1, allowed)) done)
+        (grind (arith, (quiescent b k block free).1, allowed)) done)
     returns RecvKind m at_call allowed line =
         let begin = begins_as Receives b (stands_at setup p t) refl at_call in
         let now = record (queued Receives b begin.0 k.receive_positions) { message = first_item k.items } in
@@ -211,13 +212,13 @@ module _ (setup : Setup) (room : ℕ) (s : Whole) (c : CpuId) (p : Private) (t :
         (ap (λ l. report_of_take l k.effects) allowed.1) refl (λ q. refl) in
         told 18 RecvClosed b (entry_made c t now k.effects begin.0) (refl, refl, refl)
         (received_back (record now { effect = Some k.effects }) _ None refl line
-        (grind (arith, (calm b k block free).0, allowed.0)) done)
+        (grind (arith, (quiescent b k block free).0, allowed.0)) done)
     returns CloseKind m at_call allowed line =
         let begin = begins_as Closes b (stands_at setup p t) refl at_call in
         closed_back begin.0 begin.1
 
   -- if both lines wait at a buffer that serves neither, it has no room for an item
-  pub no_room : (k : Buffer) → IsCalm k → 18 < steps_to_return setup c CloseKind k → k.capacity ≡ 0
+  pub no_room : (k : Buffer) → IsQuiescent k → 18 < steps_to_return setup c CloseKind k → k.capacity ≡ 0
   no_room k nobody more = grind (arith, cases_lt, refuted, lt-ltb, most_moved)
 
 pub calls_return_alone : CallsReturnAlone
@@ -228,6 +229,6 @@ calls_return_alone setup room s c p t few reached ready space =
       back.0,
       back.1,
       λ is more. no_room setup room s c p t few reached ready ready.block
-          (calm setup room s c p t few reached ready ready.buffer ready.block ready.is ready.unowned)
+          (quiescent setup room s c p t few reached ready ready.buffer ready.block ready.is ready.unowned)
           (subst (λ e. 18 < steps_to_return setup c e ready.block) is more),
     )

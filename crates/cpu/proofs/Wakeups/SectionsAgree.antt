@@ -2,55 +2,55 @@
 -- agreement.
 use Rattle.std.proofs.Common.{◌≡◌, ℕ, ◌+◌, ◌<◌, Bool, true, false, ◌&&◌, List, [], ◌∷◌, ◌++◌, length, Option, Some, None, is_some, nat_lt, if◌then◌else◌, refl}
 use Rattle.std.proofs.{Common.{sym, ap, ◌∙◌, subst, arith}, lemmas.Bool.{and_from, and_left, and_right, false_from_ne_true}}
-use Rattle.event_log.specs.{declared.ids.{CpuId.CpuId, Tid.Tid}, History.same_cpu, Messages.Message, Runs.{Group, Sends, Receives}}
-use Rattle.{event_log.specs.Runs.Closes, guest.specs.State.State, thread_blocks.{specs.Queues.same_tid, proofs.Members.{same_tid_self, same_tid_true}}}
+use Rattle.event_log.specs.{declared.ids.{CpuId.CpuId, Tid.Tid}, History.same_cpu, Messages.Message, Runs.{Group, Sends, Receives, Closes}}
+use Rattle.{guest.specs.State.State, thread_blocks.{specs.Queues.same_tid, proofs.Members.{same_tid_self, same_tid_true}}}
 use Rattle.layer_traits.specs.declared.{locked.Side.TheVariants.{Receivers, Senders}, call_states.Stage.{Stage, TheVariants.{Idle, Acquires, Enters, Tries}}}
-use Rattle.layer_traits.specs.{declared.call_states.Stage.TheVariants.{Waits, AcquiresAgain, Signals, SignalsOwn, Releases}, Threads.Places.Where}
-use Rattle.layer_traits.{specs.Threads.Places.{is_home, is_hand, is_thread, one_if, count_in}, proofs.CountLemmas.{same_tid_sym, count_append}}
+use Rattle.layer_traits.specs.{declared.call_states.Stage.TheVariants.{Waits, AcquiresAgain, Signals, SignalsOwn, Releases}, Threads.Places.{Where, is_home}}
+use Rattle.layer_traits.{specs.Threads.Places.{is_hand, is_thread, one_if, count_in}, proofs.CountLemmas.{same_tid_sym, count_append}}
 use Rattle.cpu.specs.Table.{Blocks.{Buffer, Name, Pend, TakeAll, side_of_group, Reported, Done, WasClosed, NotYet, Answer}, Edits.report_of_put}
-use Rattle.cpu.specs.Table.{Edits.{report_of_take, answer_of_buffer, drawn_position}, Setups.{Setup, Call, Thread, Private, thread_at, with_thread, home_cpu}}
-use Rattle.cpu.specs.Table.{Setups.stands_at, Choice.{section_due, first_section, with_call, with_state, goes_to, with_told, recorded_entry, recorded_try}}
-use Rattle.cpu.specs.{Table.Choice.{slept_if, woken, returned_at, returned_in, settled, guest_after, after_call}, Wakeups.Order.Begins}
+use Rattle.cpu.specs.Table.{Edits.{report_of_take, answer_of_buffer, drawn_position}, Setups.{SystemConfig, Call, Thread, CpuLocal, thread_at, with_thread}}
+use Rattle.cpu.specs.Table.{Setups.{home_cpu, stands_at}, Choice.{section_due, first_section, with_call, with_state, goes_to, with_told, recorded_entry}}
+use Rattle.cpu.specs.{Table.Choice.{recorded_try, slept_if, woken, returned_at, returned_in, settled, guest_after, after_call}, Wakeups.Order.Begins}
 use Rattle.cpu.{specs.Wakeups.Order.{HasEntered, WasRefused, Owes}, proofs.Wakeups.{Lists.refuted, PostsAndVisits.{Visit, Outside, In, is_pending, caller_in}}}
 use Rattle.cpu.proofs.Wakeups.PostsAndVisits.{is_caller, post_slept, post_moved, post_drained, post_pending, next_visit, visit_moved, is_local}
-use Rattle.cpu.proofs.Wakeups.Agreement.{visit_of_stage, visit_of_call, is_last, is_done, Agrees, IsSettled, at_same, at_other, Same, same_with}
-use Rattle.cpu.proofs.Wakeups.Agreement.{agrees_same, runs_at_home, local_within, agrees_slept, agrees_woken}
+use Rattle.cpu.proofs.Wakeups.Agreement.{visit_of_stage, visit_of_call, is_last, is_done, Agrees, IsSettled, at_same, at_other, Same, same_with, agrees_same}
+use Rattle.cpu.proofs.Wakeups.Agreement.{runs_at_home, local_within, agrees_slept, agrees_woken}
 
 -- A call returns once the hand is empty.
 
 -- a call that is done is the current thread's
-abbrev pub DoneRuns : Setup → CpuId → Private → Type 0
+abbrev pub DoneRuns : SystemConfig → CpuId → CpuLocal → Type 0
 DoneRuns setup c p = (u : Tid) → is_local setup c u ≡ true → is_done (thread_at p u).call ≡ true → is_thread u p.current ≡ true
 
-module _ (setup : Setup) (c : CpuId) where
-  settled_in : (p : Private) (T : Tid → Visit) (P : Tid → Where) → Agrees setup c p T P → DoneRuns setup c p → (hand current : Option Tid) → p.hand ≡ hand
+module _ (setup : SystemConfig) (c : CpuId) where
+  settled_in : (p : CpuLocal) (T : Tid → Visit) (P : Tid → Where) → Agrees setup c p T P → DoneRuns setup c p → (hand current : Option Tid) → p.hand ≡ hand
       → p.current ≡ current → Agrees setup c (returned_in setup p hand current) T P × IsSettled setup c (returned_in setup p hand current)
-  settled_in p T P agrees done (Some s) current holds runs_now = (agrees, λ u local is. (ap is_some holds, done u local is))
-  settled_in p T P agrees done None None holds runs_now = (agrees, λ u local is. refuted (ap (is_thread u) runs_now) (done u local is))
+  settled_in p T P agrees done (Some s) current holds runs_now = (agrees, λ u local_is is. (ap is_some holds, done u local_is is))
+  settled_in p T P agrees done None None holds runs_now = (agrees, λ u local_is is. refuted (ap (is_thread u) runs_now) (done u local_is is))
   settled_in p T P agrees done None (Some t) holds runs_now = grind (arith, not_yet, by_stage)
     where
       others_done : (u : Tid) → is_local setup c u ≡ true → is_done (thread_at p u).call ≡ true → same_tid t u ≡ true
-      others_done u local is = sym (ap (is_thread u) runs_now) ∙ done u local is
+      others_done u local_is is = sym (ap (is_thread u) runs_now) ∙ done u local_is is
 
       not_yet : is_done (thread_at p t).call ≡ false → IsSettled setup c p
-      not_yet off u local is = refuted off (subst (λ v. is_done (thread_at p v).call ≡ true) (sym (same_tid_true t u (others_done u local is))) is)
+      not_yet off u local_is is = refuted off (subst (λ v. is_done (thread_at p v).call ≡ true) (sym (same_tid_true t u (others_done u local_is is))) is)
 
       by_stage : (call : Call) → (thread_at p t).call ≡ Some call → (stage : Stage) → call.stage ≡ stage
           → Agrees setup c (returned_at setup p t call stage) T P × IsSettled setup c (returned_at setup p t call stage)
       by_stage call is Idle at =
-          let local = (runs_at_home setup c p T P agrees t runs_now).0 in
-          let known = local_within setup c p T P agrees t local in
+          let local_is = (runs_at_home setup c p T P agrees t runs_now).0 in
+          let known = local_within setup c p T P agrees t local_is in
           let x : Thread =
           record (thread_at p t) { guest = guest_after call.asks call.closed (stands_at setup p t) call.message (thread_at p t).guest; call = None } in
           let same : Same p (with_thread p t x) t = same_with p t x known refl in
           let none : (thread_at (with_thread p t x) t).call ≡ None = ap (λ y. y.call) (at_same p t x known) in
-          let visit_now : T t ≡ Outside = agrees.calls t local ∙ ap visit_of_call is ∙ ap (visit_of_stage call.buffer (side_of_group call.asks)) at in (
+          let visit_now : T t ≡ Outside = agrees.calls t local_is ∙ ap visit_of_call is ∙ ap (visit_of_stage call.buffer (side_of_group call.asks)) at in (
             agrees_same setup c p (with_thread p t x) t T T P agrees same (λ u other. refl) (visit_now ∙ ap visit_of_call (sym none)),
             λ u mine done_now. grind (arith, refuted, same_tid_true, others_done, at_other, mine, done_now, same, none),
           )
       by_stage call is stage at = (agrees, not_yet (ap is_done is ∙ ap is_last at))
 
-  pub agrees_settled : (p : Private) (T : Tid → Visit) (P : Tid → Where) → Agrees setup c p T P → DoneRuns setup c p
+  pub agrees_settled : (p : CpuLocal) (T : Tid → Visit) (P : Tid → Where) → Agrees setup c p T P → DoneRuns setup c p
       → Agrees setup c (settled setup p) T P × IsSettled setup c (settled setup p)
   agrees_settled p T P agrees done = settled_in p T P agrees done p.hand p.current refl refl
 
@@ -66,12 +66,12 @@ is_release stage = false
 
 -- the state after the result of a section: all except the call is as it was, and the call is where
 -- its next visit says
-pub record Recorded (p q : Private) (t : Tid) (next : Visit) (ends : Bool) : Type 0 where
+pub record Recorded (p q : CpuLocal) (t : Tid) (next : Visit) (ends : Bool) : Type 0 where
   pub same : Same p q t
   pub call : visit_of_call (thread_at q t).call ≡ next
   pub last : is_done (thread_at q t).call ≡ ends
 
-module _ (p : Private) (t : Tid) (known : t.0 < length p.threads) where
+module _ (p : CpuLocal) (t : Tid) (known : t.0 < length p.threads) where
   recorded_call : (call : Call) → Recorded p (with_call p t (Some call)) t (visit_of_call (Some call)) (is_last call.stage)
   recorded_call call = record {
     same = same_with p t (record (thread_at p t) { call = Some call }) known refl;
@@ -131,21 +131,23 @@ module _ (p : Private) (t : Tid) (known : t.0 < length p.threads) where
 
 -- A section of the current thread's call.
 
-pub slept_hand : (slept : Bool) (p : Private) → (slept_if slept p).hand ≡ p.hand
+pub slept_hand : (slept : Bool) (p : CpuLocal) → (slept_if slept p).hand ≡ p.hand
 slept_hand slept p = grind arith
 
-pub woken_threads : (setup : Setup) (c : CpuId) (woke : Option Tid) (p : Private) (u : Tid) → (thread_at (woken setup c woke p) u).call ≡ (thread_at p u).call
+pub woken_threads : (setup : SystemConfig) (c : CpuId) (woke : Option Tid) (p : CpuLocal) (u : Tid)
+    → (thread_at (woken setup c woke p) u).call ≡ (thread_at p u).call
 woken_threads setup c woke p u = grind arith
 
 -- in a private state that agrees, the hand is empty and thread t runs within this call
-pub record IsCalling (setup : Setup) (c : CpuId) (p : Private) (T : Tid → Visit) (P : Tid → Where) (t : Tid) (call : Call) : Type 0 where
+pub record IsCalling (setup : SystemConfig) (c : CpuId) (p : CpuLocal) (T : Tid → Visit) (P : Tid → Where) (t : Tid) (call : Call) : Type 0 where
   pub agrees : Agrees setup c p T P
   pub settled_before : IsSettled setup c p
   pub empty : p.hand ≡ None
   pub runs_now : p.current ≡ Some t
   pub is : (thread_at p t).call ≡ Some call
 
-module _ (setup : Setup) (c : CpuId) (p : Private) (T : Tid → Visit) (P : Tid → Where) (t : Tid) (call : Call) (calling : IsCalling setup c p T P t call) where
+module _ (setup : SystemConfig) (c : CpuId) (p : CpuLocal) (T : Tid → Visit) (P : Tid → Where) (t : Tid) (call : Call)
+    (calling : IsCalling setup c p T P t call) where
   open calling use {agrees, settled_before, empty, runs_now, is}
 
   local_now : is_local setup c t ≡ true
@@ -171,7 +173,7 @@ module _ (setup : Setup) (c : CpuId) (p : Private) (T : Tid → Visit) (P : Tid 
     abbrev now : Tid → Where
     now u = post_moved setup c call.buffer u name a.slept a.woke (P u)
 
-    abbrev recorded_now : Private
+    abbrev recorded_now : CpuLocal
     recorded_now = with_told c p t call call.stage a.told
 
     recorded_is : Recorded p recorded_now t (next_visit call.buffer name k (visit_of_stage call.buffer (side_of_group call.asks) call.stage))
@@ -207,7 +209,7 @@ module _ (setup : Setup) (c : CpuId) (p : Private) (T : Tid → Visit) (P : Tid 
         ∙ empty) no_home
 
     done_after : DoneRuns setup c (woken setup c a.woke (slept_if a.slept recorded_now))
-    done_after u local done = grind (arith, call, recorded_is, same_tid_true, runs_recorded, woken_threads, refuted, settled_before u local, empty)
+    done_after u local_is done = grind (arith, call, recorded_is, same_tid_true, runs_recorded, woken_threads, refuted, settled_before u local_is, empty)
 
     pub agrees_call : Agrees setup c (after_call setup c p t call a) N now × IsSettled setup c (after_call setup c p t call a)
     agrees_call = agrees_settled setup c (woken setup c a.woke (slept_if a.slept recorded_now)) N now agrees_after done_after
@@ -217,7 +219,7 @@ module _ (setup : Setup) (c : CpuId) (p : Private) (T : Tid → Visit) (P : Tid 
 pub drained_hand : (c : CpuId) (x : Where) → is_hand c (post_drained x) ≡ is_hand c x
 drained_hand c x = grind arith
 
-module _ (setup : Setup) (c : CpuId) (p : Private) (T : Tid → Visit) (P : Tid → Where)
+module _ (setup : SystemConfig) (c : CpuId) (p : CpuLocal) (T : Tid → Visit) (P : Tid → Where)
     (agrees : Agrees setup c p T P) (settled_before : IsSettled setup c p) where
   -- the thread in the hand is put among the pending
   pub agrees_pended : (d : CpuId) (s : Tid) → p.hand ≡ Some s
@@ -225,7 +227,7 @@ module _ (setup : Setup) (c : CpuId) (p : Private) (T : Tid → Visit) (P : Tid 
       × IsSettled setup c (settled setup (record p { hand = None }))
   agrees_pended d s holds =
       agrees_settled setup c (record p { hand = None }) T (λ u. post_pending setup d u (Pend s) (P u))
-      (grind (arith, agrees, same_tid_true, refuted, same_tid_self, holds)) (λ u local done. (settled_before u local done).1)
+      (grind (arith, agrees, same_tid_true, refuted, same_tid_self, holds)) (λ u local_is done. (settled_before u local_is done).1)
 
   -- those that were pending are ready
   pub agrees_drained : (list : List Tid) → ((u : Tid) → count_in u list ≡ one_if (same_cpu (home_cpu setup u) c && is_pending (P u)))
@@ -234,7 +236,8 @@ module _ (setup : Setup) (c : CpuId) (p : Private) (T : Tid → Visit) (P : Tid 
   agrees_drained list counts known = grind (arith, agrees, count_append, and_right, and_from, false_from_ne_true, refuted, drained_hand, counts, known)
 
 -- the current thread yields: it is queued after the ready threads, and no thread runs
-pub agrees_yielded : (setup : Setup) (c : CpuId) (p : Private) (T : Tid → Visit) (P : Tid → Where) → Agrees setup c p T P → (t : Tid) → p.current ≡ Some t
+pub agrees_yielded : (setup : SystemConfig) (c : CpuId) (p : CpuLocal) (T : Tid → Visit) (P : Tid → Where) → Agrees setup c p T P → (t : Tid)
+    → p.current ≡ Some t
     → (guest : State) → Agrees setup c (record (with_state p t guest) { current = None; ready = p.ready ++ t ∷ [] }) T P
 agrees_yielded setup c p T P agrees t runs_now guest = grind (arith, moved, same_tid_sym, count_append)
   where
@@ -249,7 +252,7 @@ agrees_yielded setup c p T P agrees t runs_now guest = grind (arith, moved, same
 
 -- A section of another CPU.
 
-pub agrees_foreign : (setup : Setup) (c : CpuId) (p : Private) (T N : Tid → Visit) (P M : Tid → Where) → Agrees setup c p T P
+pub agrees_foreign : (setup : SystemConfig) (c : CpuId) (p : CpuLocal) (T N : Tid → Visit) (P M : Tid → Where) → Agrees setup c p T P
     → ((u : Tid) → is_local setup c u ≡ true → N u ≡ T u) → ((u : Tid) → is_local setup c u ≡ true → is_home (M u) ≡ is_home (P u))
     → ((u : Tid) → is_hand c (M u) ≡ is_hand c (P u)) → Agrees setup c p N M
 agrees_foreign setup c p T N P M agrees visits homes in_hands = grind arith

@@ -1,20 +1,20 @@
 -- A quiet state that a system reaches is stuck.
-use Rattle.std.proofs.Common.{◌≡◌, ◌<◌, true, false, List, [], ◌∷◌, length, slice_get, Option, Some, None, nat_lt, refl, sym, ap, ◌∙◌, subst}
-use Rattle.std.proofs.{Common.arith, lemmas.Bool.{and_parts, and_from, false_from_ne_true, lt-ltb, ltb-true}}
+use Rattle.std.proofs.Common.{◌≡◌, ◌<◌, true, false, List, [], ◌∷◌, length, slice_get, Option, Some, None, nat_lt, refl, sym, ap, ◌∙◌, subst, arith}
+use Rattle.std.proofs.lemmas.Bool.{and_parts, and_from, false_from_ne_true, lt-ltb, ltb-true}
 use Rattle.event_log.specs.declared.ids.{CpuId.CpuId, Tid.Tid, BufId.BufId, LockId.TheVariants.{Pending, Buffer as AtBuffer}, TheConstants.THREADS}
 use Rattle.event_log.specs.{declared.entries.Kind.{Kind, TheVariants.{Recv as RecvKind, SendClosed, RecvClosed}}, Messages.{Message, no_message}, Runs.Group}
 use Rattle.event_log.{specs.{Runs.{Sends, Receives, Closes, group_of}, Sections.sections_in}, proofs.Same.same_cpu_self}
 use Rattle.{guest.specs.{declared.instructions.Instruction.Instruction, State.State}, thread_blocks.{specs.Queues.first, proofs.Members.same_tid_self}}
 use Rattle.layer_traits.specs.declared.{locked.Side.{Side, TheVariants.{Receivers, Senders}}, call_states.Stage.TheVariants.AcquiresAgain}
-use Rattle.layer_traits.specs.Threads.Places.{Where, Home, Hand, IsPending, Asleep, At, is_hand, is_thread, count_in}
-use Rattle.{layer_traits.proofs.ListsLemmas.counted_in, cpu.specs.Table.{Blocks.{Buffer, OfBuffer, side_of_group}, Edits.{line_on, waiting_of}, Setups.Setup}}
-use Rattle.cpu.specs.{Table.{Setups.{Call, Private, thread_at, home_cpu, stands_at}, Steps.{Whole, block_at}}, Wakeups.{Order.progress, Lost.Allows}}
-use Rattle.cpu.specs.Wakeups.Quiet.{HomesExist, IsQuietTable, IsNextEffect, IsStuckCall, IsLive, IsStuck, QuietIsStuck}
-use Rattle.cpu.proofs.Wakeups.{Lists.refuted, Ordered.{buffer_awake, calm_loses_nothing}, PostsAndVisits.{Waiting, Outside, list_of, sleeps_in, is_side}}
-use Rattle.cpu.proofs.Wakeups.{PostsAndVisits.{names, goes_on, starts_here, stands, is_lined, is_local, post, visit, marked}, ThreadAtBuffer.Pair}
-use Rattle.cpu.proofs.Wakeups.ThreadAtBuffer.{buffer_self, buffer_true, sleeps_here, marked_some, front_counted, line_count, wait_count}
-use Rattle.cpu.proofs.Wakeups.{BuffersAndThreads.Good, Placed.{IsPlaced, buffer_there}, Agreement.{visit_of_call, Agrees}, EndedThreads.is_before}
-use Rattle.cpu.proofs.Wakeups.{EndedThreads.{HasLine, FitsGroup, Says}, ReachedStates.fair_good, SystemInv.{SystemInv, reached_inv, cpu_there}}
+use Rattle.layer_traits.{specs.Threads.Places.{Where, Home, Hand, IsPending, Asleep, At, is_hand, is_thread, count_in}, proofs.ListsLemmas.counted_in}
+use Rattle.cpu.specs.Table.{Blocks.{Buffer, OfBuffer, side_of_group}, Edits.{line_on, waiting_of}, Setups.{SystemConfig, Call, CpuLocal, thread_at, home_cpu}}
+use Rattle.cpu.specs.{Table.{Setups.stands_at, Steps.{SystemState, block_at}}, Wakeups.{Order.progress, Lost.Allows, Quiet.{HomesExist, IsQuietTable}}}
+use Rattle.cpu.{specs.Wakeups.Quiet.{IsNextEffect, IsStuckCall, IsLive, IsStuck, QuietIsStuck}, proofs.Wakeups.{Lists.refuted, Ordered.buffer_awake}}
+use Rattle.cpu.proofs.Wakeups.{Ordered.quiescent_loses_nothing, PostsAndVisits.{Waiting, Outside, list_of, sleeps_in, is_side, names, goes_on, starts_here}}
+use Rattle.cpu.proofs.Wakeups.{PostsAndVisits.{stands, is_lined, is_local, post, visit, marked}, ThreadAtBuffer.{Pair, buffer_self, buffer_true, sleeps_here}}
+use Rattle.cpu.proofs.Wakeups.{ThreadAtBuffer.{marked_some, front_counted, line_count, wait_count}, BuffersAndThreads.Good, Placed.{IsPlaced, buffer_there}}
+use Rattle.cpu.proofs.Wakeups.{Agreement.{visit_of_call, Agrees}, EndedThreads.{is_before, HasLine, FitsGroup, Says}, ReachedStates.fair_good}
+use Rattle.cpu.proofs.Wakeups.SystemInv.{SystemInv, reached_inv, cpu_there}
 use Rattle.layer_traits.specs.declared.moves.WaitList.TheVariants as wait_list
 
 -- where a thread sleeps: for the lock of a buffer, or on a side of it
@@ -49,26 +49,26 @@ same_effect : (line : Instruction) (s : State) (a x : Group) (b d : BufId) (m n 
     → IsNextEffect line s a b m → IsNextEffect line s x d n → (a ≡ x) × (b ≡ d)
 same_effect line s a x b d m n one other = grind arith
 
-module _ (setup : Setup) (s : Whole) (homes : HomesExist setup) (kept : SystemInv setup s) (quiet : IsQuietTable setup s) where
+module _ (setup : SystemConfig) (s : SystemState) (homes : HomesExist setup) (kept : SystemInv setup s) (quiet : IsQuietTable setup s) where
   good : Good setup (sections_in s.log)
   good = fair_good setup s.log kept.sound.fair
 
-  local : (u : Tid) → u.0 < length setup.homes → is_local setup (home_cpu setup u) u ≡ true
-  local u known = grind (arith, and_from, same_cpu_self, lt-ltb)
+  local_is : (u : Tid) → u.0 < length setup.homes → is_local setup (home_cpu setup u) u ≡ true
+  local_is u known = grind (arith, and_from, same_cpu_self, lt-ltb)
 
   small : (u : Tid) → u.0 < length setup.homes → nat_lt u.0 THREADS ≡ true
   small u known = let few = homes.0 in lt-ltb u.0 THREADS (omega (arith, known, few))
 
-  agrees : (c : CpuId) (p : Private) → slice_get s.cpus c.0 ≡ Some p
+  agrees : (c : CpuId) (p : CpuLocal) → slice_get s.cpus c.0 ≡ Some p
       → Agrees setup c p (λ u. visit setup u (sections_in s.log)) (λ u. post setup u (sections_in s.log))
   agrees c p here = (kept.sound.cpus c p here).agrees
 
   -- a quiet CPU's hand is empty
-  empty : (c : CpuId) (p : Private) → slice_get s.cpus c.0 ≡ Some p → p.hand ≡ None
+  empty : (c : CpuId) (p : CpuLocal) → slice_get s.cpus c.0 ≡ Some p → p.hand ≡ None
   empty c p here = grind (arith, quiet.cpus c p here)
 
   -- a live thread sleeps
-  asleep : (p : Private) (u : Tid) → IsLive setup s p u → Sleeps (post setup u (sections_in s.log))
+  asleep : (p : CpuLocal) (u : Tid) → IsLive setup s p u → Sleeps (post setup u (sections_in s.log))
   asleep p u live = by_post (post setup u (sections_in s.log)) refl
     where
       by_post : (x : Where) → post setup u (sections_in s.log) ≡ x → Sleeps (post setup u (sections_in s.log))
@@ -77,7 +77,14 @@ module _ (setup : Setup) (s : Whole) (homes : HomesExist setup) (kept : SystemIn
       by_post (Asleep (At (AtBuffer b) wait_list.Senders)) at = at_wait b Senders at
       by_post (Asleep (At (Pending d) list)) at = absurd (subst (IsPlaced setup (visit setup u (sections_in s.log))) at (kept.placed.posts u))
       by_post Home at =
-          absurd (grind (arith, (agrees (home_cpu setup u) p live.here).seats u, quiet.cpus (home_cpu setup u) p live.here, local u live.known, live, refuted))
+          absurd (grind (
+            arith,
+            (agrees (home_cpu setup u) p live.here).seats u,
+            quiet.cpus (home_cpu setup u) p live.here,
+            local_is u live.known,
+            live,
+            refuted,
+          ))
       by_post (Hand e) at =
           let cpu = cpu_there setup s kept e (subst (IsPlaced setup (visit setup u (sections_in s.log))) at (kept.placed.posts u)) in
           refuted (ap (is_thread u) (empty e cpu.0 cpu.1)) ((agrees e cpu.0 cpu.1).hands u ∙ ap (is_hand e) at ∙ same_cpu_self e)
@@ -86,14 +93,14 @@ module _ (setup : Setup) (s : Whole) (homes : HomesExist setup) (kept : SystemIn
           absurd (grind (arith, none, same_cpu_self))
 
   -- a thread that has a visit at a buffer is live
-  live_at : (u : Tid) (b : BufId) → names b (visit setup u (sections_in s.log)) ≡ true → (p : Private) × IsLive setup s p u
+  live_at : (u : Tid) (b : BufId) → names b (visit setup u (sections_in s.log)) ≡ true → (p : CpuLocal) × IsLive setup s p u
   live_at u b on =
       let known = ltb-true u.0 (length setup.homes) (grind (arith, on, kept.placed.callers u)) in
       let cpu = cpu_there setup s kept (home_cpu setup u) (homes.1 u known) in
       let alive : (thread_at cpu.0 u).ended ≡ false =
       false_from_ne_true (thread_at cpu.0 u).ended (λ ended.
       let out : visit setup u (sections_in s.log) ≡ Outside =
-      (agrees (home_cpu setup u) cpu.0 cpu.1).calls u (local u known) ∙ ap visit_of_call ((kept.fine (home_cpu setup u) cpu.0 cpu.1 u).quits ended) in
+      (agrees (home_cpu setup u) cpu.0 cpu.1).calls u (local_is u known) ∙ ap visit_of_call ((kept.fine (home_cpu setup u) cpu.0 cpu.1 u).quits ended) in
       refuted (ap (names b) out) on) in
       (cpu.0, record { known = known; here = cpu.1; alive = alive })
 
@@ -111,7 +118,7 @@ module _ (setup : Setup) (s : Whole) (homes : HomesExist setup) (kept : SystemIn
           inside : (names b (visit setup t (sections_in s.log)) ≡ true) × (goes_on (visit setup t (sections_in s.log)) ≡ true)
           inside = and_parts (names b (visit setup t (sections_in s.log))) (goes_on (visit setup t (sections_in s.log))) (pair.owner is).0
 
-          live : (p : Private) × IsLive setup s p t
+          live : (p : CpuLocal) × IsLive setup s p t
           live = live_at t b inside.0
 
           by_sleep : Sleeps (post setup t (sections_in s.log)) → Some t ≡ None
@@ -129,7 +136,7 @@ module _ (setup : Setup) (s : Whole) (homes : HomesExist setup) (kept : SystemIn
   no_sleepers b k block = ((buffer_awake setup (sections_in s.log) good.ordered b k block).idle (unowned b k block)).1
 
   -- so a live thread waits at its wait
-  waits : (p : Private) (u : Tid) → IsLive setup s p u
+  waits : (p : CpuLocal) (u : Tid) → IsLive setup s p u
       → (b : BufId) × (side : Side) × (post setup u (sections_in s.log) ≡ Asleep (At (AtBuffer b) (list_of side)))
       × (visit setup u (sections_in s.log) ≡ Waiting b side)
   waits p u live = by_sleep (asleep p u live)
@@ -145,7 +152,7 @@ module _ (setup : Setup) (s : Whole) (homes : HomesExist setup) (kept : SystemIn
           absurd (omega (arith, (good.pairs b u there.0 there.1).sleepers, ap (count_in u) (no_sleepers b there.0 there.1), one))
 
   -- the call of a live thread
-  stuck_call : (p : Private) (u : Tid) → IsLive setup s p u → (call : Call) × ((thread_at p u).call ≡ Some call) × IsStuckCall setup s p u call
+  stuck_call : (p : CpuLocal) (u : Tid) → IsLive setup s p u → (call : Call) × ((thread_at p u).call ≡ Some call) × IsStuckCall setup s p u call
   stuck_call p u live = by_call (thread_at p u).call refl
     where
       wait : (b : BufId) × (side : Side) × (post setup u (sections_in s.log) ≡ Asleep (At (AtBuffer b) (list_of side)))
@@ -153,7 +160,7 @@ module _ (setup : Setup) (s : Whole) (homes : HomesExist setup) (kept : SystemIn
       wait = waits p u live
 
       turned : visit setup u (sections_in s.log) ≡ visit_of_call (thread_at p u).call
-      turned = (agrees (home_cpu setup u) p live.here).calls u (local u live.known)
+      turned = (agrees (home_cpu setup u) p live.here).calls u (local_is u live.known)
 
       by_call : (o : Option Call) → (thread_at p u).call ≡ o → (call : Call) × ((thread_at p u).call ≡ Some call) × IsStuckCall setup s p u call
       by_call None is = absurd (cc (sym wait.3 ∙ turned ∙ ap visit_of_call is))
@@ -205,7 +212,7 @@ module _ (setup : Setup) (s : Whole) (homes : HomesExist setup) (kept : SystemIn
                   let stands_there = counted_in t (waiting_of (side_of_group call.asks) k) (omega (arith, one, counts)) in
                   grind (
                     arith,
-                    calm_loses_nothing k _ (buffer_awake setup (sections_in s.log) good.ordered call.buffer k block),
+                    quiescent_loses_nothing k _ (buffer_awake setup (sections_in s.log) good.ordered call.buffer k block),
                     unowned call.buffer k block,
                     line,
                     front,

@@ -6,15 +6,15 @@ use Rattle.std.proofs.{Common.arith, lemmas.{Bool.{eq-eqb, eqb-true, and_parts, 
 use Rattle.event_log.specs.{declared.ids.{CpuId.CpuId, Tid.Tid, BufId.BufId, LockId.TheVariants.Buffer as AtBuffer, TheConstants.THREADS}, Messages.Message}
 use Rattle.{event_log.{specs.History.same_cpu, proofs.Same.buffer_numbered}, thread_blocks.{specs.Queues.{same_tid, first, rest}, proofs.Members.same_tid_self}}
 use Rattle.{thread_blocks.proofs.Members.same_tid_true, layer_traits.specs.declared.locked.Side.{Side, TheVariants.{Receivers, Senders}}}
-use Rattle.layer_traits.specs.{declared.moves.WaitList.WaitList, Threads.{ListsAgree.same_list, Places.{Where, Asleep, At}}}
-use Rattle.layer_traits.specs.{Threads.Places.{is_thread, one_if, count_in}, Layers.Sleeping.joined, Blocks.BufferBlocks.may_join}
-use Rattle.layer_traits.proofs.{CountLemmas.{same_tid_sym, count_append, count_front, in_counted, not_counted, count_behind}, ListsLemmas.count_without}
-use Rattle.{layer_traits.proofs.ListsLemmas.{at_wait_channel, wait_channel_here}, cpu.specs.Table.Blocks.{Buffer, Name, AcqQ, Enter, TryPut, TryTake, Shut}}
-use Rattle.cpu.specs.Table.{Blocks.{WaitOn, SigRecv, SigSend, RelQ, front_stands_in}, Edits.{may_try, due_on, without_any, acquired, line_on}}
-use Rattle.cpu.specs.Table.{Edits.{lined_up, put, taken, shut_off, waiting, released, edited_buffer, answer_of_buffer, signal_sent, waiting_of}, Setups.Setup}
-use Rattle.cpu.specs.{Table.Setups.home_cpu, Wakeups.Order.{Progress, Begins, HasEntered, WasRefused, Owes, progress_after, progress_signalled, MayEdit}}
-use Rattle.cpu.proofs.Wakeups.{Lists.{refuted, first_is}, PostsAndVisits.{Visit, is_buffer, sleeps_in, sleeps_at, is_inside, is_starting, is_lined, InStep}}
-use Rattle.cpu.proofs.Wakeups.PostsAndVisits.{is_caller, post_by, post_woken, post_moved, visit_moved, marked, list_of}
+use Rattle.layer_traits.specs.{declared.moves.WaitList.WaitList, Threads.{ListsAgree.same_list, Places.{Where, Asleep, At, is_thread, one_if, count_in}}}
+use Rattle.layer_traits.{specs.{Layers.Sleeping.joined, Blocks.BufferBlocks.may_join}, proofs.CountLemmas.{same_tid_sym, count_append, count_front, in_counted}}
+use Rattle.layer_traits.proofs.{CountLemmas.{not_counted, count_behind}, ListsLemmas.{count_without, at_wait_channel, wait_channel_here}}
+use Rattle.cpu.specs.Table.{Blocks.{Buffer, Name, AcqQ, Enter, TryPut, TryTake, Shut, WaitOn, SigRecv, SigSend, RelQ, front_stands_in}, Edits.{may_try, due_on}}
+use Rattle.cpu.specs.Table.Edits.{without_any, acquired, line_on, lined_up, put, taken, shut_off, waiting, released, edited_buffer, answer_of_buffer}
+use Rattle.cpu.specs.{Table.{Edits.{signal_sent, waiting_of}, Setups.{SystemConfig, home_cpu}}, Wakeups.Order.{Progress, Begins, HasEntered, WasRefused, Owes}}
+use Rattle.cpu.{specs.Wakeups.Order.{progress_after, progress_signalled, MayEdit}, proofs.Wakeups.{Lists.{refuted, first_is}, PostsAndVisits.Visit}}
+use Rattle.cpu.proofs.Wakeups.PostsAndVisits.{is_buffer, sleeps_in, sleeps_at, is_inside, is_starting, is_lined, InStep, is_caller, post_by, post_woken}
+use Rattle.cpu.proofs.Wakeups.PostsAndVisits.{post_moved, visit_moved, marked, list_of}
 use Rattle.layer_traits.specs.declared.moves.WaitList.TheVariants as wait_list
 
 -- a thread and a buffer's lock: its owner, the lists of its sleepers and of the threads that wait
@@ -139,7 +139,7 @@ start_inside b visit on = grind (arith, and_parts)
 not_mine : {A : Type 0} (u t : Tid) (o : Option Tid) → o ≡ Some t → same_tid t u ≡ false → o ≡ Some u → A
 not_mine u t o owner other mine = refuted other (subst (λ x. same_tid t x ≡ true) (same_Some t u (sym owner ∙ mine)) (same_tid_self t))
 
-module _ (setup : Setup) (c : CpuId) (b : BufId) (u t : Tid) (other : same_tid t u ≡ false) (visit : Visit) (post : Where) where
+module _ (setup : SystemConfig) (c : CpuId) (b : BufId) (u t : Tid) (other : same_tid t u ≡ false) (visit : Visit) (post : Where) where
   other_acquire : (k : Buffer) (g : Progress) (o : Option Tid) → k.busy ≡ o → Pair b u k g visit post → Pair b u (acquired t o k) g visit post
   other_acquire k g o is pair = grind (arith, paired, other_joined)
 
@@ -201,7 +201,7 @@ module _ (setup : Setup) (c : CpuId) (b : BufId) (u t : Tid) (other : same_tid t
           grind (arith, paired, owner, not_mine, on, off, one_list, woken_awake, signal_left, marked_none, is)
       by_test false is = grind (arith, paired, owner, signal_left, is)
 
-other_section : (setup : Setup) (c : CpuId) (b : BufId) (u : Tid) (name : Name) (k : Buffer) (g : Progress) (visit : Visit) (post : Where)
+other_section : (setup : SystemConfig) (c : CpuId) (b : BufId) (u : Tid) (name : Name) (k : Buffer) (g : Progress) (visit : Visit) (post : Where)
     → is_caller u name ≡ false → MayEdit name k g → Pair b u k g visit post
     → Pair b u (edited_buffer name k) (progress_after name k g) visit (if is_thread u (answer_of_buffer name k).woke then post_woken setup c u else post)
 other_section setup c b u (AcqQ t) k g visit post other may pair =
@@ -220,7 +220,7 @@ other_section setup c b u (RelQ t) k g visit post other may pair = other_release
 other_section setup c b u name k g visit post other may pair = absurd may
 
 -- a section of another thread on the buffer keeps the pair
-pub other_pair : (setup : Setup) (c : CpuId) (b : BufId) (u : Tid) (name : Name) (k : Buffer) (g : Progress) (visit : Visit) (post : Where)
+pub other_pair : (setup : SystemConfig) (c : CpuId) (b : BufId) (u : Tid) (name : Name) (k : Buffer) (g : Progress) (visit : Visit) (post : Where)
     → is_caller u name ≡ false → MayEdit name k g → Pair b u k g visit post
     → Pair b u (edited_buffer name k) (progress_after name k g) (visit_moved b u name k visit)
     (post_moved setup c b u name (answer_of_buffer name k).slept (answer_of_buffer name k).woke post)

@@ -50,13 +50,13 @@ cpu_boots homes buffers number guests limit capacity are few reserved = record {
 
 -- a CPU that was made so, in a machine that is fresh
 pub boots_as : {P L M : Type 0} (I : Ghosts P L M) (m : M) (p : Cpu P M) (homes : List CpuId) (buffers k : ℕ) (guests : List (Option Guest)) (most : ℕ)
-    → IsBootedAs (λ q n. I.Fits q n) (λ n d. I.IsFresh n homes d) (λ n. length (caps_in (I.opening n))) buffers homes k guests most p.part (I.cpu_of p.part)
-    (I.own p.part) (I.under_way p.part) p.number p.guests.items p.trace.items p.limit (vec_capacity p.trace) → I.IsFresh m homes (cpu_at k)
-    → length (caps_in (I.opening m)) ≡ buffers → homes_in (I.opening m) ≡ homes → I.seen m ≡ [] → AreGuests homes buffers (cpu_at k) guests → length homes
-    ≤ THREADS → I.Fits p.part m × (I.cpu_of p.part ≡ p.number) × IsCpu (homes_in (I.opening m)) (length (caps_in (I.opening m))) (I.seen m)
-    (threads_in (I.own p.part)) (I.own p.part).call_states (I.under_way p.part) p.number p.guests.items p.trace.items p.limit (vec_capacity p.trace)
+    → IsBootedAs (λ q n. I.Coupled q n) (λ n d. I.IsFresh n homes d) (λ n. length (caps_in (I.opening n))) buffers homes k guests most p.part (I.cpu_of p.part)
+    (I.local p.part) (I.under_way p.part) p.number p.guests.items p.trace.items p.limit (vec_capacity p.trace) → I.IsFresh m homes (cpu_at k)
+    → length (caps_in (I.opening m)) ≡ buffers → homes_in (I.opening m) ≡ homes → I.history m ≡ [] → AreGuests homes buffers (cpu_at k) guests → length homes
+    ≤ THREADS → I.Coupled p.part m × (I.cpu_of p.part ≡ p.number) × IsCpu (homes_in (I.opening m)) (length (caps_in (I.opening m))) (I.history m)
+    (threads_in (I.local p.part)) (I.local p.part).call_states (I.under_way p.part) p.number p.guests.items p.trace.items p.limit (vec_capacity p.trace)
 boots_as I m p homes buffers k guests most is fresh counted same none are few = (
-  is.fits m fresh counted,
+  is.coupled m fresh counted,
   is.cpu_is ∙ sym is.booted.number_is,
   subst (λ z. z) (λ i. IsCpu (sym same i) (sym counted i) (sym none i) (threads_in (sym is.own_is i)) (sym is.own_is i).call_states (sym is.nothing_done i)
       (sym is.booted.number_is i) (sym is.booted.guests_are i) (sym is.booted.nothing i) (sym is.booted.limit_is i) (vec_capacity p.trace))
@@ -65,19 +65,20 @@ boots_as I m p homes buffers k guests most is fresh counted same none are few = 
 
 -- a system before its first step
 pub opens : {X N : Type 0} (IsOne : X → Type 0) (number : X → CpuId) (ActsFor MayHold : CpuId → Type 0) (IsStepwise : Type 0) (acts : List (Action N))
-    (cpus : List X) (homes homes2 : List CpuId) (seen : List Entry) (caps : List ℕ) (room left n : ℕ) (Sound : Type 0) → Sound → AreOpenable n caps homes
+    (cpus : List X) (homes homes2 : List CpuId) (history : List Entry) (caps : List ℕ) (room left n : ℕ) (Sound : Type 0) → Sound → AreOpenable n caps homes
     → length cpus ≡ n → ((k : ℕ) (x : X) → slice_get cpus k ≡ Some x → IsAt IsOne number k x) → ((c : CpuId) → c.0 < CPUS → ActsFor c)
-    → ((c : CpuId) → MayHold c → ⊥) → acts ≡ [] → homes2 ≡ homes → seen ≡ [] → room < 2 ^ 64 → room ≤ left
-    → IsSystem IsOne number ActsFor MayHold IsStepwise acts cpus homes2 seen room 0 left Sound
-opens IsOne number ActsFor MayHold IsStepwise acts cpus homes homes2 seen caps room left n Sound sound openable count each acts_for nobody nothing same none =
+    → ((c : CpuId) → MayHold c → ⊥) → acts ≡ [] → homes2 ≡ homes → history ≡ [] → room < 2 ^ 64 → room ≤ left
+    → IsSystem IsOne number ActsFor MayHold IsStepwise acts cpus homes2 history room 0 left Sound
+opens IsOne number ActsFor MayHold IsStepwise acts cpus homes homes2 history caps room left n Sound sound openable count each acts_for nobody nothing same
+    none =
     grind (arith, slice_get_within, get_or_from_slice_get)
 
 -- the same system, of which the table says something that follows
 pub system_sounds : {X N : Type 0} (IsOne : X → Type 0) (number : X → CpuId) (ActsFor MayHold : CpuId → Type 0) (IsStepwise : Type 0) (acts : List (Action N))
-    (cpus : List X) (homes : List CpuId) (seen : List Entry) (room taken left : ℕ) (Sound Sound2 : Type 0) → (Sound → Sound2)
-    → IsSystem IsOne number ActsFor MayHold IsStepwise acts cpus homes seen room taken left Sound
-    → IsSystem IsOne number ActsFor MayHold IsStepwise acts cpus homes seen room taken left Sound2
-system_sounds IsOne number ActsFor MayHold IsStepwise acts cpus homes seen room taken left Sound Sound2 goes is = grind arith
+    (cpus : List X) (homes : List CpuId) (history : List Entry) (room taken left : ℕ) (Sound Sound2 : Type 0) → (Sound → Sound2)
+    → IsSystem IsOne number ActsFor MayHold IsStepwise acts cpus homes history room taken left Sound
+    → IsSystem IsOne number ActsFor MayHold IsStepwise acts cpus homes history room taken left Sound2
+system_sounds IsOne number ActsFor MayHold IsStepwise acts cpus homes history room taken left Sound Sound2 goes is = grind arith
 
 -- the elements after the first n, and the one before them
 drop_next : {X : Type 0} (xs : List X) (n : ℕ) → n < length xs → drop 1 (drop n xs) ≡ drop (suc n) xs

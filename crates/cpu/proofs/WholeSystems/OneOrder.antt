@@ -9,7 +9,7 @@ use Rattle.{thread_blocks.specs.Queues.is_in, guest.specs.{Calls.{IsProgramsCall
 use Rattle.layer_traits.specs.{declared.{calls.Effect.Effect, call_states.CallState.CallState}, Layers.BufferLaw.{UnderWay, begun_of, call_state_of}}
 use Rattle.{layer_traits.{specs.Threads.{OnePlace.cpu_at, Places.{Stands, Step}}, proofs.EffectRunLemmas.count_reversed}, cpu.specs.declared.guests.Guest.Guest}
 use Rattle.cpu.specs.{declared.guests.GuestStage.{GuestStage, TheVariants.{Idle, Begun, Done, Ended}}, Guests.{HasComeIn, is_ended}, Cpus.{IsCpu, IsOfHome}}
-use Rattle.cpu.{specs.{Cpus.{guest_at, of_cpu, of_thread}, Claims.{CpuShown, Keeps, listed}}, proofs.ListFacts.ListReads.{all_reversed, listed_there, there_is}}
+use Rattle.cpu.{specs.{Cpus.{guest_at, of_cpu, of_thread}, Claims.{CpuView, Keeps, listed}}, proofs.ListFacts.ListReads.{all_reversed, listed_there, there_is}}
 
 -- what a test selects from a reversed list
 pub filter_reversed : {X : Type 0} (p : X → Bool) (xs : List X) → filter p (reverse xs) ≡ reverse (filter p xs)
@@ -25,8 +25,8 @@ filter_reversed p (x ∷ xs) =
 -- What is closed.
 
 -- a buffer is reported closed exactly if the effects have closed it, in their order
-pub closed_by_order : (seen : List Entry) (n b : ℕ) → b < n → slice_index_or (listed (is_closed seen) 0 n) b false ≡ is_closed (reverse seen) b
-closed_by_order seen n b within = grind (arith, listed_there, count_reversed)
+pub closed_by_order : (history : List Entry) (n b : ℕ) → b < n → slice_index_or (listed (is_closed history) 0 n) b false ≡ is_closed (reverse history) b
+closed_by_order history n b within = grind (arith, listed_there, count_reversed)
 
 -- The interleaving.
 
@@ -56,12 +56,12 @@ order_interleaves (e ∷ es) traces each known = (
 -- What is shown of each CPU.
 
 -- a CPU that is shown so is one of which what always holds is true
-pub record Has (homes : List CpuId) (buffers : ℕ) (seen : List Entry) (moves : List Step) (k : ℕ) (p : CpuShown) : Type 0 where
+pub record Has (homes : List CpuId) (buffers : ℕ) (history : List Entry) (moves : List Step) (k : ℕ) (p : CpuView) : Type 0 where
   pub call_states : List CallState
   pub under_way : Option UnderWay
   pub capacity : ℕ
-  pub is : IsCpu homes buffers seen p.own call_states under_way (cpu_at k) p.guests p.trace p.limit capacity
-  pub stands : Stands homes (cpu_at k) moves p.own
+  pub is : IsCpu homes buffers history p.local call_states under_way (cpu_at k) p.guests p.trace p.limit capacity
+  pub stands : Stands homes (cpu_at k) moves p.local
 
 -- a guest keeps to its program
 keeps_by : (g : Guest) (told_ended : Bool) (es : List Entry) (begun : Option Call) (effect : Option Effect)
@@ -83,32 +83,32 @@ keeps_by g told_ended es begun effect follows over = go g.stage refl follows
     go Done at f = record { calls = (_, turned _ f.6); ends = runs_on Done at refl; stands = stood; over = over }
     go Ended at f = record { calls = (g.thread, turned g.thread f.1); ends = λ ends. f.2; stands = stood; over = over }
 
-module _ (homes : List CpuId) (buffers : ℕ) (seen : List Entry) (moves : List Step) where
-  pub follow_programs : (k : ℕ) (p : CpuShown) → Has homes buffers seen moves k p → (t : Tid) (g : Guest) → guest_at p.guests t.0 ≡ Some g
-      → Keeps g (is_in t p.own.ended) (of_thread t.0 p.trace)
+module _ (homes : List CpuId) (buffers : ℕ) (history : List Entry) (moves : List Step) where
+  pub follow_programs : (k : ℕ) (p : CpuView) → Has homes buffers history moves k p → (t : Tid) (g : Guest) → guest_at p.guests t.0 ≡ Some g
+      → Keeps g (is_in t p.local.ended) (of_thread t.0 p.trace)
   follow_programs k p has t g at =
-      let same = ap (λ (l : List Entry). of_thread t.0 l) has.is.kept ∙ filter_reversed (λ (e : Entry). e.thread.0 == t.0) (of_cpu (cpu_at k) seen) in
-      subst (λ (l : List Entry). Keeps g (is_in t p.own.ended) l) (sym same)
-      (keeps_by g (is_in t p.own.ended) (of_thread t.0 (of_cpu (cpu_at k) seen)) (begun_of (call_state_of has.call_states t))
+      let same = ap (λ (l : List Entry). of_thread t.0 l) has.is.kept ∙ filter_reversed (λ (e : Entry). e.thread.0 == t.0) (of_cpu (cpu_at k) history) in
+      subst (λ (l : List Entry). Keeps g (is_in t p.local.ended) l) (sym same)
+      (keeps_by g (is_in t p.local.ended) (of_thread t.0 (of_cpu (cpu_at k) history)) (begun_of (call_state_of has.call_states t))
       (call_state_of has.call_states t).effect (has.is.follow t g at).1 (λ ended. has.is.over t ended g at))
 
-  pub stay_home : (k : ℕ) (p : CpuShown) → Has homes buffers seen moves k p → AllByRecursion (IsOfHome homes (cpu_at k)) p.trace
+  pub stay_home : (k : ℕ) (p : CpuView) → Has homes buffers history moves k p → AllByRecursion (IsOfHome homes (cpu_at k)) p.trace
   stay_home k p has = grind (arith, all_reversed)
 
   -- the effects, oldest first, are an order of the traces
-  pub traces_interleaved : (cpus : List CpuShown) → ((k : ℕ) (p : CpuShown) → slice_get cpus k ≡ Some p → Has homes buffers seen moves k p)
-      → AllByRecursion (λ e. e.cpu.0 < length cpus) seen → IsInterleaving (map (λ p. p.trace) cpus) (reverse seen)
+  pub traces_interleaved : (cpus : List CpuView) → ((k : ℕ) (p : CpuView) → slice_get cpus k ≡ Some p → Has homes buffers history moves k p)
+      → AllByRecursion (λ e. e.cpu.0 < length cpus) history → IsInterleaving (map (λ p. p.trace) cpus) (reverse history)
   traces_interleaved cpus each known =
-      let count : length (map (λ (p : CpuShown). p.trace) cpus) ≡ length cpus = length-map cpus (λ (p : CpuShown). p.trace) in
-      order_interleaves (reverse seen) (map (λ (p : CpuShown). p.trace) cpus) (λ k within. trace_at k (omega (arith, count, within)))
-      (subst (λ (n : ℕ). AllByRecursion (λ x. x.cpu.0 < n) (reverse seen)) (sym count) (all_reversed (λ (x : Entry). x.cpu.0 < length cpus) seen known))
+      let count : length (map (λ (p : CpuView). p.trace) cpus) ≡ length cpus = length-map cpus (λ (p : CpuView). p.trace) in
+      order_interleaves (reverse history) (map (λ (p : CpuView). p.trace) cpus) (λ k within. trace_at k (omega (arith, count, within)))
+      (subst (λ (n : ℕ). AllByRecursion (λ x. x.cpu.0 < n) (reverse history)) (sym count) (all_reversed (λ (x : Entry). x.cpu.0 < length cpus) history known))
     where
-      trace_at : (k : ℕ) → k < length cpus → slice_index_or (map (λ (p : CpuShown). p.trace) cpus) k [] ≡ of_cpu (cpu_at k) (reverse seen)
+      trace_at : (k : ℕ) → k < length cpus → slice_index_or (map (λ (p : CpuView). p.trace) cpus) k [] ≡ of_cpu (cpu_at k) (reverse history)
       trace_at k within =
           let there = there_is cpus k within in
-          trace_of cpus k there.0 there.1 ∙ (each k there.0 there.1).is.kept ∙ sym (filter_reversed (λ (e : Entry). e.cpu.0 == k) seen)
+          trace_of cpus k there.0 there.1 ∙ (each k there.0 there.1).is.kept ∙ sym (filter_reversed (λ (e : Entry). e.cpu.0 == k) history)
         where
-          trace_of : (ps : List CpuShown) (j : ℕ) (p : CpuShown) → slice_get ps j ≡ Some p → slice_index_or (map (λ (q : CpuShown). q.trace) ps) j [] ≡ p.trace
+          trace_of : (ps : List CpuView) (j : ℕ) (p : CpuView) → slice_get ps j ≡ Some p → slice_index_or (map (λ (q : CpuView). q.trace) ps) j [] ≡ p.trace
           trace_of [] j p at = absurd cc
-          trace_of (q ∷ ps) zero p at = let same : q ≡ p = cc in ap (λ (x : CpuShown). x.trace) same
+          trace_of (q ∷ ps) zero p at = let same : q ≡ p = cc in ap (λ (x : CpuView). x.trace) same
           trace_of (q ∷ ps) (suc j) p at = trace_of ps j p at

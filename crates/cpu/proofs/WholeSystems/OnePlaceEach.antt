@@ -5,7 +5,7 @@ use Rattle.{event_log.specs.declared.ids.{BufId.BufId, CpuId.CpuId, LockId.TheVa
 use Rattle.layer_traits.specs.{declared.moves.WaitList.TheVariants.{Sleepers, Receivers, Senders}, Layers.IpcLaw.WaitListsAgree, Threads.ListsAgree.is_at}
 use Rattle.layer_traits.specs.Threads.{OnePlace.{cpu_at, total}, Places.{AreMoves, Asleep, At, WaitChannel, Stands, Step, Where, home_of, is_asleep, one_if}}
 use Rattle.layer_traits.{specs.Threads.Places.{wait_channel_of, where_is}, proofs.OnePlaceLemmas.{one_place, total_none, total_one, total_same}}
-use Rattle.cpu.specs.Claims.{Waiters, CpuShown, Shown, StandsOnce, waiters_at, waiters_by, buffer_at, in_waiters, listed, no_waiters, own_at, own_in}
+use Rattle.cpu.specs.Claims.{Waiters, CpuView, SystemView, HasUniquePlace, waiters_at, waiters_by, buffer_at, in_waiters, listed, no_waiters, own_at, own_in}
 use Rattle.cpu.proofs.ListFacts.ListReads.{listed_length, listed_there, there_is}
 
 -- how often a place is one of buffer b
@@ -44,9 +44,10 @@ module _ (n : ℕ) (homes : List CpuId) (moves : List Step) (lines : BufId → W
       go w is = total_none (λ b. times_at b None) n (λ b within. times_none b)
 
 -- each thread of a system is in exactly one place
-pub once_of : (s : Shown) (n : ℕ) (lines : BufId → WaitList → List Tid) → s.waiters ≡ listed (waiters_by lines) 0 n → WaitListsAgree n s.homes s.moves lines
+pub once_of : (s : SystemView) (n : ℕ) (lines : BufId → WaitList → List Tid) → s.waiters ≡ listed (waiters_by lines) 0 n
+    → WaitListsAgree n s.homes s.moves lines
     → ((t : Tid) (home : CpuId) → home_of s.homes t ≡ Some home → home.0 < length s.cpus) → AreMoves s.homes s.moves
-    → ((k : ℕ) (p : CpuShown) → slice_get s.cpus k ≡ Some p → Stands s.homes (cpu_at k) s.moves p.own) → StandsOnce s
+    → ((k : ℕ) (p : CpuView) → slice_get s.cpus k ≡ Some p → Stands s.homes (cpu_at k) s.moves p.local) → HasUniquePlace s
 once_of s n lines waiters_are agree within moved stands t =
     one_place s.homes (length s.cpus) s.moves (own_at s) (λ u. total (λ b. in_waiters u (waiters_at s b)) (length s.waiters)) (record {
       homes_within = within;
@@ -56,8 +57,8 @@ once_of s n lines waiters_are agree within moved stands t =
     })
     t
   where
-    stand_at : (k : ℕ) → (p : CpuShown) × (slice_get s.cpus k ≡ Some p) → Stands s.homes (cpu_at k) s.moves (own_at s k)
-    stand_at k there = subst (λ (o : Option CpuShown). Stands s.homes (cpu_at k) s.moves (own_in o)) (sym there.1) (stands k there.0 there.1)
+    stand_at : (k : ℕ) → (p : CpuView) × (slice_get s.cpus k ≡ Some p) → Stands s.homes (cpu_at k) s.moves (own_at s k)
+    stand_at k there = subst (λ (o : Option CpuView). Stands s.homes (cpu_at k) s.moves (own_in o)) (sym there.1) (stands k there.0 there.1)
 
     sleeps : (u : Tid) → total (λ b. in_waiters u (waiters_at s b)) (length s.waiters) ≡ one_if (is_asleep (where_is s.homes s.moves u))
     sleeps u =

@@ -9,8 +9,8 @@ use Rattle.cpu.{specs.{Systems.IsAt, CpuSteps.{IsCpuAt, IsTabledAt}}, proofs.Lis
 
 -- the holder of a system's machine acts for CPU 0
 pub acts_first : {X N : Type 0} {IsOne : X → Type 0} {number : X → CpuId} {ActsFor MayHold : CpuId → Type 0} {IsStepwise : Type 0} {acts : List (Action N)}
-    {cpus : List X} {homes : List CpuId} {seen : List Entry} {room taken left : ℕ} {Sound : Type 0}
-    → IsSystem IsOne number ActsFor MayHold IsStepwise acts cpus homes seen room taken left Sound → ActsFor (cpu_at 0)
+    {cpus : List X} {homes : List CpuId} {history : List Entry} {room taken left : ℕ} {Sound : Type 0}
+    → IsSystem IsOne number ActsFor MayHold IsStepwise acts cpus homes history room taken left Sound → ActsFor (cpu_at 0)
 acts_first is = let least = is.some in let most = is.most in is.acts_for (cpu_at 0) (omega (arith, least, most))
 
 -- a loop over the CPUs: what holds of those before and of this one holds of those up to here
@@ -29,10 +29,11 @@ item_at xs ys i x same within reads = subst (λ l. slice_get l i ≡ Some x) sam
 
 module _ {P L M : Type 0} (I : Ghosts P L M) (m : M) (cpus : List (Cpu P M))
     (each : (k : ℕ) (x : Cpu P M) → slice_get cpus k ≡ Some x
-    → IsAt (λ y. I.Fits y.part m × (I.cpu_of y.part ≡ y.number) × IsCpuAt I m y × (I.IsStepwise → IsTabledAt I m y)) (λ y. y.number) k x)
+    → IsAt (λ y. I.Coupled y.part m × (I.cpu_of y.part ≡ y.number) × IsCpuAt I m y × (I.IsStepwise → IsTabledAt I m y)) (λ y. y.number) k x)
     (holders : (c : CpuId) → length cpus ≤ c.0 → c.0 < CPUS → I.MayHold m c → ⊥) where
   module _ {A : Type 0} {here : P → Option A} {home : Option A} {truth : A}
-      (told : IsObservedAs (λ (p : P). I.Fits p m) (λ (p : P). I.cpu_of p) (I.MayHold m) here home truth) (ys : List (Cpu P M)) (i : ℕ) (same : ys ≡ cpus) where
+      (told : IsObservedAs (λ (p : P). I.Coupled p m) (λ (p : P). I.cpu_of p) (I.MayHold m) here home truth) (ys : List (Cpu P M)) (i : ℕ)
+      (same : ys ≡ cpus) where
     -- what a part of the system reports is true
     pub told_here : (x : Cpu P M) (answer : A) → i < length ys → x ≡ slice_index_or ys i x → here x.part ≡ Some answer → answer ≡ truth
     told_here x answer within reads is = told.by_part x.part answer (each i x (item_at cpus ys i x same within reads)).holds.0 is
@@ -48,7 +49,7 @@ module _ {P L M : Type 0} (I : Ghosts P L M) (m : M) (cpus : List (Cpu P M))
   -- for a thread whose home CPU is in the system, some part is not silent
   pub wait_channel_here : (IsSilent : P → Type 0) (homes : List CpuId) (moves : List Step) (t : Tid) → AreMoves homes moves
       → ((u : Tid) (home : CpuId) → home_of homes u ≡ Some home → home.0 < length cpus)
-      → ReadsPlace (λ p. I.Fits p m) (λ p. I.cpu_of p) (I.MayHold m) IsSilent (home_of homes t) (where_is homes moves t)
+      → ReadsPlace (λ p. I.Coupled p m) (λ p. I.cpu_of p) (I.MayHold m) IsSilent (home_of homes t) (where_is homes moves t)
       → ((k : ℕ) (x : Cpu P M) → slice_get cpus k ≡ Some x → IsSilent x.part) → ⊥
   wait_channel_here IsSilent homes moves t moved within tells silent =
       let there = there_is cpus tells.cpu.0 (grind (arith, hand_home, tells.may, cases_lt)) in

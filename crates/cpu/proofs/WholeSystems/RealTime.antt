@@ -2,24 +2,25 @@
 -- of the later ones.
 use Rattle.std.proofs.{Common.{◌≡◌, ◌+◌, List, [], ◌∷◌, ◌++◌, ap, sym, ◌∙◌, subst, append_assoc, arith}, lemmas.List.{append-nil, length-append}}
 use Rattle.std.{proofs.lemmas.{List.{get_or_append_left, get_or-append-add}, Option.slice_get-get_or}, specs.Prelude.Contains}
-use Rattle.{event_log.specs.declared.{entries.Entry.Entry, ids.CpuId.CpuId}, cpu.specs.{Claims.{IsMoment, Shown}, Linear.{ComesBefore, IsLinearizable}}}
+use Rattle.{event_log.specs.declared.{entries.Entry.Entry, ids.CpuId.CpuId}, cpu.specs.{Claims.{IsRunState, SystemView}, Linear.{ComesBefore, IsLinearizable}}}
 use Rattle.cpu.specs.{Linear.{LinearRunsKeepRealTime, begins, takes_none, takes_step}, Systems.{Ran, WentOn, goes, took_none, stayed, took}}
 
 -- Steps that were taken or not are moments of a run.
 
-linear_went : {IsStepwise : Type 0} {old s : Shown} {steps : List CpuId} (c : CpuId) (r : Shown) → IsLinearizable old steps s → WentOn IsStepwise c s r
+linear_went : {IsStepwise : Type 0} {old s : SystemView} {steps : List CpuId} (c : CpuId) (r : SystemView) → IsLinearizable old steps s
+    → WentOn IsStepwise c s r
     → IsLinearizable old (steps ++ c ∷ []) r
 linear_went c r before (took live counted grows now step) = takes_step c r before grows now
 linear_went {old = old} {steps = steps} c r before (stayed reason is same) =
-    subst (λ (t : Shown). IsLinearizable old (steps ++ c ∷ []) t) (sym same) (takes_none c before)
+    subst (λ (t : SystemView). IsLinearizable old (steps ++ c ∷ []) t) (sym same) (takes_none c before)
 
-pub linear_ran : {IsStepwise : Type 0} {old r : Shown} {steps : List CpuId} → Ran IsStepwise old steps r → IsLinearizable old steps r
+pub linear_ran : {IsStepwise : Type 0} {old r : SystemView} {steps : List CpuId} → Ran IsStepwise old steps r → IsLinearizable old steps r
 linear_ran took_none = begins
 linear_ran (goes c r before went) = linear_went c r (linear_ran before) went
 
 -- Its moments.
 
-order_after : {old r : Shown} {steps : List CpuId} → IsLinearizable old steps r → (more : List Entry) × (r.order ≡ old.order ++ more)
+order_after : {old r : SystemView} {steps : List CpuId} → IsLinearizable old steps r → (more : List Entry) × (r.order ≡ old.order ++ more)
 order_after {old = old} begins = ([], sym (append-nil old.order))
 order_after (takes_none c before) = order_after before
 order_after {old = old} (takes_step c r before grows now) =
@@ -28,7 +29,7 @@ order_after {old = old} (takes_step c r before grows now) =
       grows.order.is ∙ ap (λ (l : List Entry). l ++ grows.order.more) first.1 ∙ append_assoc old.order first.0 grows.order.more,
     )
 
-moment_after : {old r : Shown} {steps : List CpuId} → IsLinearizable old steps r → IsMoment old → IsMoment r
+moment_after : {old r : SystemView} {steps : List CpuId} → IsLinearizable old steps r → IsRunState old → IsRunState r
 moment_after begins first = first
 moment_after (takes_none c before) first = moment_after before first
 moment_after (takes_step c r before grows now) first = now

@@ -18,9 +18,9 @@ use Rattle.guest.specs.State.{State, message_from, after_local, after_send, afte
 use Rattle.{guest.specs.State.{after_closed, after_yield}, cpu.specs.Table.Blocks.{Name, AcqQ}}
 use Rattle.cpu.specs.Table.Blocks.{Enter, TryPut, TryTake, Shut, WaitOn, SigRecv, SigSend, RelQ}
 use Rattle.cpu.specs.Table.Blocks.{Pend, TakeAll, side_of_group, kind_for, Reported, Position, Done}
-use Rattle.cpu.specs.Table.{Blocks.{WasClosed, DidShut, NotYet, Drained, Answer}, Setups.Setup}
-use Rattle.cpu.specs.Table.Setups.{Call, Private, thread_at, with_thread, home_cpu, stands_at}
-use Rattle.cpu.specs.Table.Setups.{home_threads, open_calls, have_ended}
+use Rattle.cpu.specs.Table.Blocks.{WasClosed, DidShut, NotYet, Drained, Answer}
+use Rattle.cpu.specs.Table.Setups.{SystemConfig, Call, CpuLocal, thread_at, with_thread, home_cpu}
+use Rattle.cpu.specs.Table.Setups.{stands_at, home_threads, open_calls, have_ended}
 
 -- The section that is requested.
 
@@ -74,17 +74,17 @@ abbrev pub asked_by : CpuId → Tid → Option Call → Ask
 asked_by c t None = at_pending c TakeAll
 asked_by c t (Some call) = at_buffer call.buffer (section_due t call call.stage)
 
-abbrev pub asked_at : CpuId → Private → Option Tid → Ask
+abbrev pub asked_at : CpuId → CpuLocal → Option Tid → Ask
 asked_at c p None = at_pending c TakeAll
 asked_at c p (Some t) = asked_by c t (thread_at p t).call
 
 -- a thread in the hand is first appended to the pending threads of its home CPU
-abbrev pub asked_in : Setup → CpuId → Private → Option Tid → Ask
+abbrev pub asked_in : SystemConfig → CpuId → CpuLocal → Option Tid → Ask
 asked_in setup c p None = asked_at c p p.current
 asked_in setup c p (Some s) = at_pending (home_cpu setup s) (Pend s)
 
 -- the section that a CPU requests
-abbrev pub asked : Setup → CpuId → Private → Ask
+abbrev pub asked : SystemConfig → CpuId → CpuLocal → Ask
 asked setup c p = asked_in setup c p p.hand
 
 -- The choice of a step, while no section is under way.
@@ -93,8 +93,8 @@ asked setup c p = asked_in setup c p p.hand
 -- has
 pub data Choice : Type 0 where
   Halts : (reason : Reason) → Choice
-  Alone : (next : Private) → Choice
-  Goes : (next : Private) → Choice
+  Alone : (next : CpuLocal) → Choice
+  Goes : (next : CpuLocal) → Choice
 
 -- a call that begins
 abbrev pub new_call : Group → BufId → Message → Call
@@ -109,25 +109,25 @@ new_call asks b m =
       stage = Acquires;
     }
 
-abbrev pub with_call : Private → Tid → Option Call → Private
+abbrev pub with_call : CpuLocal → Tid → Option Call → CpuLocal
 with_call p t call = with_thread p t (record (thread_at p t) { call = call })
 
-abbrev pub with_state : Private → Tid → State → Private
+abbrev pub with_state : CpuLocal → Tid → State → CpuLocal
 with_state p t guest = with_thread p t (record (thread_at p t) { guest = guest })
 
 -- a call begins, unless the calls under way will leave the trace full
-abbrev pub begin_or_halt : Setup → CpuId → Private → Tid → Call → Choice
+abbrev pub begin_or_halt : SystemConfig → CpuId → CpuLocal → Tid → Call → Choice
 begin_or_halt setup c p t call =
     if (length p.trace + open_calls p (home_threads setup c)) == setup.trace_room
     then Halts TraceFull
     else Goes (with_call p t (Some call))
 
 -- a thread ends
-abbrev pub ends : Private → Tid → Private
+abbrev pub ends : CpuLocal → Tid → CpuLocal
 ends p t = record (with_thread p t (record (thread_at p t) { ended = true })) { current = None }
 
 -- the current thread is at an instruction
-abbrev pub at_instruction : Setup → CpuId → Private → Tid → Instruction → Choice
+abbrev pub at_instruction : SystemConfig → CpuId → CpuLocal → Tid → Instruction → Choice
 at_instruction setup c p t (Send b from k) =
     begin_or_halt setup c p t (new_call Sends b (message_from (thread_at p t).guest from))
 at_instruction setup c p t (Recv b into k) =
@@ -145,27 +145,27 @@ at_instruction setup c p t (Jnz r k) =
     Alone (with_state p t (after_local (Jnz r k) (thread_at p t).guest))
 
 -- the current thread continues its call, or its instruction
-abbrev pub at_call : Setup → CpuId → Private → Tid → Option Call → Choice
+abbrev pub at_call : SystemConfig → CpuId → CpuLocal → Tid → Option Call → Choice
 at_call setup c p t (Some call) = Goes p
 at_call setup c p t None = at_instruction setup c p t (stands_at setup p t)
 
 -- no thread runs: the first ready thread does next; if none is ready, all pending threads are taken
-abbrev pub at_ready : Private → List Tid → Choice
+abbrev pub at_ready : CpuLocal → List Tid → Choice
 at_ready p [] = Goes p
 at_ready p (t ∷ rest) = Alone (record p { current = Some t; ready = rest })
 
-abbrev pub at_current : Setup → CpuId → Private → Option Tid → Choice
+abbrev pub at_current : SystemConfig → CpuId → CpuLocal → Option Tid → Choice
 at_current setup c p None = at_ready p p.ready
 at_current setup c p (Some t) = at_call setup c p t (thread_at p t).call
 
 -- a thread in the hand precedes all else; a CPU of which each thread has ended is halted
-abbrev pub at_hand : Setup → CpuId → Private → Option Tid → Choice
+abbrev pub at_hand : SystemConfig → CpuId → CpuLocal → Option Tid → Choice
 at_hand setup c p (Some s) = Goes p
 at_hand setup c p None =
     if have_ended p (home_threads setup c) then Halts AllEnded else at_current setup c p p.current
 
 -- what a CPU without a section under way does
-abbrev pub choice : Setup → CpuId → Private → Choice
+abbrev pub choice : SystemConfig → CpuId → CpuLocal → Choice
 choice setup c p = at_hand setup c p p.hand
 
 -- What a result makes of the private state.
@@ -184,43 +184,43 @@ entry_made c t call op m =
     }
 
 -- the call continues at this stage
-abbrev pub goes_to : Private → Tid → Call → Stage → Private
+abbrev pub goes_to : CpuLocal → Tid → Call → Stage → CpuLocal
 goes_to p t call stage = with_call p t (Some (record call { stage = stage }))
 
 -- the call takes effect, and its entry is written
-abbrev pub effected : CpuId → Private → Tid → Call → ℕ → Private
+abbrev pub effected : CpuId → CpuLocal → Tid → Call → ℕ → CpuLocal
 effected c p t call op =
     record (with_call p t (Some (record call { effect = Some op; stage = Signals }))) {
       trace = p.trace ++ entry_made c t call op call.message ∷ [];
     }
 
 -- the position that the call drew
-abbrev pub recorded_position : Private → Tid → Call → Reported → Private
+abbrev pub recorded_position : CpuLocal → Tid → Call → Reported → CpuLocal
 recorded_position p t call (Position pos) =
     with_call p t (Some (record call { position = pos; stage = Tries }))
 recorded_position p t call _ = p
 
 -- that the buffer is closed, which is the effect of a close
-abbrev pub recorded_shut : CpuId → Private → Tid → Call → Reported → Private
+abbrev pub recorded_shut : CpuId → CpuLocal → Tid → Call → Reported → CpuLocal
 recorded_shut c p t call (DidShut op pos) = effected c p t (record call { position = pos }) op
 recorded_shut c p t call _ = p
 
 -- what its first section reported, by what the call asks for
-abbrev pub recorded_entry : CpuId → Private → Tid → Call → Group → Reported → Private
+abbrev pub recorded_entry : CpuId → CpuLocal → Tid → Call → Group → Reported → CpuLocal
 recorded_entry c p t call Sends told = recorded_position p t call told
 recorded_entry c p t call Receives told = recorded_position p t call told
 recorded_entry c p t call Closes told = recorded_shut c p t call told
 
 -- what the try reported: its effect, that it found the buffer closed, which is its effect too, or
 -- that the call must wait
-abbrev pub recorded_try : CpuId → Private → Tid → Call → Reported → Private
+abbrev pub recorded_try : CpuId → CpuLocal → Tid → Call → Reported → CpuLocal
 recorded_try c p t call (Done op m) = effected c p t (record call { message = m }) op
 recorded_try c p t call (WasClosed op) = effected c p t (record call { closed = true }) op
 recorded_try c p t call NotYet = goes_to p t call Waits
 recorded_try c p t call _ = p
 
 -- what the section of a stage reported
-abbrev pub with_told : CpuId → Private → Tid → Call → Stage → Reported → Private
+abbrev pub with_told : CpuId → CpuLocal → Tid → Call → Stage → Reported → CpuLocal
 with_told c p t call Acquires told = goes_to p t call Enters
 with_told c p t call Enters told = recorded_entry c p t call call.asks told
 with_told c p t call Tries told = recorded_try c p t call told
@@ -232,12 +232,12 @@ with_told c p t call Releases told = goes_to p t call Idle
 with_told c p t call Idle told = p
 
 -- a caller that sleeps is no longer the running thread
-abbrev pub slept_if : Bool → Private → Private
+abbrev pub slept_if : Bool → CpuLocal → CpuLocal
 slept_if false p = p
 slept_if true p = record p { current = None }
 
 -- a woken thread is ready if this is its home CPU; otherwise it is in the hand
-abbrev pub woken : Setup → CpuId → Option Tid → Private → Private
+abbrev pub woken : SystemConfig → CpuId → Option Tid → CpuLocal → CpuLocal
 woken setup c None p = p
 woken setup c (Some s) p =
     if same_cpu (home_cpu setup s) c then record p { ready = p.ready ++ s ∷ [] }
@@ -255,7 +255,7 @@ guest_after asks closed line m guest =
     if closed then after_closed line guest else guest_served asks line m guest
 
 -- the call has returned
-abbrev pub returned : Setup → Private → Tid → Call → Private
+abbrev pub returned : SystemConfig → CpuLocal → Tid → Call → CpuLocal
 returned setup p t call =
     with_thread p t (record
     (thread_at p t) {
@@ -264,21 +264,21 @@ returned setup p t call =
       call = None;
     })
 
-abbrev pub returned_at : Setup → Private → Tid → Call → Stage → Private
+abbrev pub returned_at : SystemConfig → CpuLocal → Tid → Call → Stage → CpuLocal
 returned_at setup p t call Idle = returned setup p t call
 returned_at setup p t call _ = p
 
-abbrev pub returned_by : Setup → Private → Tid → Option Call → Private
+abbrev pub returned_by : SystemConfig → CpuLocal → Tid → Option Call → CpuLocal
 returned_by setup p t None = p
 returned_by setup p t (Some call) = returned_at setup p t call call.stage
 
-abbrev pub returned_in : Setup → Private → Option Tid → Option Tid → Private
+abbrev pub returned_in : SystemConfig → CpuLocal → Option Tid → Option Tid → CpuLocal
 returned_in setup p (Some s) current = p
 returned_in setup p None None = p
 returned_in setup p None (Some t) = returned_by setup p t (thread_at p t).call
 
 -- a call that has done its last section returns once the hand is empty
-abbrev pub settled : Setup → Private → Private
+abbrev pub settled : SystemConfig → CpuLocal → CpuLocal
 settled setup p = returned_in setup p p.hand p.current
 
 abbrev pub drained : Reported → List Tid
@@ -286,12 +286,12 @@ drained (Drained threads) = threads
 drained _ = []
 
 -- after a section of a call
-abbrev pub after_call : Setup → CpuId → Private → Tid → Call → Answer → Private
+abbrev pub after_call : SystemConfig → CpuId → CpuLocal → Tid → Call → Answer → CpuLocal
 after_call setup c p t call a =
     settled setup (woken setup c a.woke (slept_if a.slept (with_told c p t call call.stage a.told)))
 
 -- after a yield: the pending threads are ready, then the thread that yielded; no thread runs
-abbrev pub after_yielding : Setup → Private → Tid → Answer → Private
+abbrev pub after_yielding : SystemConfig → CpuLocal → Tid → Answer → CpuLocal
 after_yielding setup p t a =
     record (with_state p t (after_yield (stands_at setup p t) (thread_at p t).guest)) {
       current = None;
@@ -299,22 +299,22 @@ after_yielding setup p t a =
     }
 
 -- after a drain: the pending threads are ready
-abbrev pub after_drain : Private → Answer → Private
+abbrev pub after_drain : CpuLocal → Answer → CpuLocal
 after_drain p a = record p { ready = p.ready ++ drained a.told }
 
-abbrev pub after_by : Setup → CpuId → Private → Tid → Option Call → Answer → Private
+abbrev pub after_by : SystemConfig → CpuId → CpuLocal → Tid → Option Call → Answer → CpuLocal
 after_by setup c p t None a = after_yielding setup p t a
 after_by setup c p t (Some call) a = after_call setup c p t call a
 
-abbrev pub after_at : Setup → CpuId → Private → Option Tid → Answer → Private
+abbrev pub after_at : SystemConfig → CpuId → CpuLocal → Option Tid → Answer → CpuLocal
 after_at setup c p None a = after_drain p a
 after_at setup c p (Some t) a = after_by setup c p t (thread_at p t).call a
 
 -- after the section that appended the thread in the hand to the pending threads, the hand is empty
-abbrev pub after_in : Setup → CpuId → Private → Option Tid → Answer → Private
+abbrev pub after_in : SystemConfig → CpuId → CpuLocal → Option Tid → Answer → CpuLocal
 after_in setup c p None a = after_at setup c p p.current a
 after_in setup c p (Some s) a = settled setup (record p { hand = None })
 
 -- the private state after a section
-abbrev pub after_section : Setup → CpuId → Private → Answer → Private
+abbrev pub after_section : SystemConfig → CpuId → CpuLocal → Answer → CpuLocal
 after_section setup c p a = after_in setup c p p.hand a

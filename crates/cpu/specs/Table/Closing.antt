@@ -6,32 +6,32 @@ use Rattle.event_log.specs.{declared.entries.Kind.TheVariants.RecvClosed, Messag
 use Rattle.layer_traits.specs.declared.steps.Reason.TheVariants.{AllEnded}
 use Rattle.guest.specs.declared.instructions.Instruction.{Instruction, TheVariants.{Set, Recv}}
 use Rattle.guest.specs.declared.instructions.Instruction.TheVariants.{Close}
-use Rattle.guest.specs.declared.instructions.Into.TheVariants.{One as ToOne}
+use Rattle.guest.specs.declared.instructions.Target.TheVariants.{One as ToOne}
 use Rattle.guest.specs.declared.instructions.Register.TheVariants.{Reg0, Reg1}
-use Rattle.cpu.specs.Table.{Setups.Setup, Worked.{buffer_numbered, Burst, of, reached, traces}}
-use Rattle.cpu.specs.Table.Worked.{endings, reason, at_buffer_0, leaves, as_entry, setup_of}
+use Rattle.cpu.specs.Table.{Setups.SystemConfig, Worked.{buffer_numbered, Burst, of, reached}}
+use Rattle.cpu.specs.Table.Worked.{traces, endings, reason, at_buffer_0, leaves, as_entry, setup_of}
 use Rattle.cpu.specs.Table.Worked.{send_from, receive_into, receives_one}
 
 abbrev pub closes_one : List Instruction
 closes_one = Close (buffer_numbered 0) ∷ []
 
 -- a receiver on CPU 0, and on CPU 1 a thread that closes the buffer
-abbrev pub closed_apart : Setup
+abbrev pub closed_apart : SystemConfig
 closed_apart = setup_of 2 (0 ∷ 1 ∷ []) (receives_one ∷ closes_one ∷ []) (1 ∷ []) 4
 
 -- one thread that sends, closes, sends again, and receives twice
-abbrev pub closed_alone : Setup
+abbrev pub closed_alone : SystemConfig
 closed_alone = setup_of 1 (0 ∷ [])
     ((Set Reg0 7 ∷ send_from Reg0 ∷ Close (buffer_numbered 0) ∷ send_from Reg0 ∷ receive_into Reg1
     ∷ receive_into Reg1 ∷ []) ∷ []) (1 ∷ []) 8
 
 -- two receivers on one CPU, and a thread that closes their buffer
-abbrev pub closed_on_two : Setup
+abbrev pub closed_on_two : SystemConfig
 closed_on_two =
     setup_of 1 (0 ∷ 0 ∷ 0 ∷ []) (receives_one ∷ receives_one ∷ closes_one ∷ []) (1 ∷ []) 8
 
 -- one thread that closes a buffer, and whose receive continues at a send two lines below
-abbrev pub closed_aside : Setup
+abbrev pub closed_aside : SystemConfig
 closed_aside = setup_of 1 (0 ∷ [])
     ((Set Reg0 7 ∷ Close (buffer_numbered 0) ∷ Recv (buffer_numbered 0) (ToOne Reg0) (Some 4)
     ∷ Set Reg0 9 ∷ send_from Reg0 ∷ []) ∷ [])

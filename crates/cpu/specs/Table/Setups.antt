@@ -11,7 +11,7 @@ use Rattle.layer_traits.specs.{declared.call_states.Stage.Stage, Threads.Passes.
 
 -- the number of CPUs, the home CPU of each thread, its program, the capacity of each buffer, and
 -- how many entries a CPU's trace may have
-pub record Setup : Type 0 where
+pub record SystemConfig : Type 0 where
   pub cpus : ℕ
   pub homes : List CpuId
   pub programs : List (List Instruction)
@@ -41,7 +41,7 @@ pub record Thread : Type 0 where
 -- A CPU's private state: the running thread; the ready threads, head first; the woken thread in its
 -- hand, which it has yet to append to another CPU's pending threads; all threads by number; and its
 -- trace, oldest first. Threads of other homes stay as at boot.
-pub record Private : Type 0 where
+pub record CpuLocal : Type 0 where
   pub current : Option Tid
   pub ready : List Tid
   pub hand : Option Tid
@@ -53,15 +53,15 @@ abbrev pub new_thread : Thread
 new_thread = record { guest = at_start; call = None; ended = false }
 
 -- a thread by its number
-abbrev pub thread_at : Private → Tid → Thread
+abbrev pub thread_at : CpuLocal → Tid → Thread
 thread_at p t = slice_index_or p.threads t.0 new_thread
 
 -- the same private state, with one thread replaced
-abbrev pub with_thread : Private → Tid → Thread → Private
+abbrev pub with_thread : CpuLocal → Tid → Thread → CpuLocal
 with_thread p t x = record p { threads = slice_set p.threads t.0 x }
 
 -- the CPU on which a thread runs
-abbrev pub home_cpu : Setup → Tid → CpuId
+abbrev pub home_cpu : SystemConfig → Tid → CpuId
 home_cpu setup t = or_else (record { 0 = 0 }) (slice_get setup.homes t.0)
 
 abbrev pub program_or : Option (List Instruction) → List Instruction
@@ -69,11 +69,11 @@ program_or None = []
 program_or (Some program) = program
 
 -- the program of a thread
-abbrev pub program_of : Setup → Tid → List Instruction
+abbrev pub program_of : SystemConfig → Tid → List Instruction
 program_of setup t = program_or (slice_get setup.programs t.0)
 
 -- the instruction at which a thread is
-abbrev pub stands_at : Setup → Private → Tid → Instruction
+abbrev pub stands_at : SystemConfig → CpuLocal → Tid → Instruction
 stands_at setup p t = next_of (program_of setup t) (thread_at p t).guest
 
 -- the threads of these homes, numbered from i upwards, whose home CPU is c
@@ -84,11 +84,11 @@ home_threads_from c (home ∷ homes) i =
     else home_threads_from c homes (i + 1)
 
 -- the threads whose home CPU is c, by rising number
-abbrev pub home_threads : Setup → CpuId → List Tid
+abbrev pub home_threads : SystemConfig → CpuId → List Tid
 home_threads setup c = home_threads_from c setup.homes 0
 
 -- a CPU at boot: its home threads are ready, and nothing has happened
-abbrev pub boot_of : Setup → CpuId → Private
+abbrev pub boot_of : SystemConfig → CpuId → CpuLocal
 boot_of setup c =
     record {
       current = None;
@@ -121,7 +121,7 @@ opening_buffer None = None
 opening_buffer (Some capacity) = Some (OfBuffer (buffer_at_boot capacity))
 
 -- the opening block of each lock
-abbrev pub opening : Setup → LockId → Option Block
+abbrev pub opening : SystemConfig → LockId → Option Block
 opening setup (Pending c) = Some (OfPending [])
 opening setup (AtBuffer b) = opening_buffer (slice_get setup.caps b.0)
 
@@ -136,12 +136,12 @@ is_open_call None = false
 is_open_call (Some call) = has_none call.effect
 
 -- how many of these threads are inside a call that has not taken effect
-abbrev pub open_calls : Private → List Tid → ℕ
+abbrev pub open_calls : CpuLocal → List Tid → ℕ
 open_calls p [] = 0
 open_calls p (t ∷ ts) =
     if is_open_call (thread_at p t).call then open_calls p ts + 1 else open_calls p ts
 
 -- whether all of these threads have ended
-abbrev pub have_ended : Private → List Tid → Bool
+abbrev pub have_ended : CpuLocal → List Tid → Bool
 have_ended p [] = true
 have_ended p (t ∷ ts) = (thread_at p t).ended && have_ended p ts

@@ -2,16 +2,17 @@
 use Rattle.std.specs.Prelude.{◌≡◌, true, [], ◌∷◌, Some, None}
 use Rattle.event_log.specs.declared.entries.Kind.TheVariants.{Send as SendKind, Recv as RecvKind}
 use Rattle.layer_traits.specs.declared.steps.Reason.TheVariants.{AllEnded}
-use Rattle.guest.specs.declared.instructions.{Into.TheVariants.All, Register.TheVariants.Reg0}
+use Rattle.guest.specs.declared.instructions.{Target.TheVariants.All, Register.TheVariants.Reg0}
 use Rattle.guest.specs.declared.instructions.Register.TheVariants.{Reg1, Reg2}
 use Rattle.guest.specs.declared.instructions.{Source.TheVariants.First, Instruction.TheVariants.Set}
 use Rattle.guest.specs.declared.instructions.Instruction.TheVariants.{Send, Recv}
-use Rattle.cpu.specs.Table.{Setups.Setup, Worked.{buffer_numbered, of, reached, traces, endings}}
-use Rattle.cpu.specs.Table.Worked.{reason, at_buffer_0, leaves, as_entry, setup_of, send_from}
+use Rattle.cpu.specs.Table.{Setups.SystemConfig, Worked.{buffer_numbered, of, reached, traces}}
+use Rattle.cpu.specs.Table.Worked.{endings, reason, at_buffer_0, leaves, as_entry, setup_of}
+use Rattle.cpu.specs.Table.Worked.{send_from}
 
 -- one thread that sends its first two registers, receives the message into all of them, and sends
 -- the third
-abbrev pub words_alone : Setup
+abbrev pub words_alone : SystemConfig
 words_alone = setup_of 1 (0 ∷ [])
     ((Set Reg0 1 ∷ Set Reg1 2 ∷ Send (buffer_numbered 0) (First 2) None ∷ Set Reg2 9
     ∷ Recv (buffer_numbered 0) All None ∷ send_from Reg2 ∷ []) ∷ [])

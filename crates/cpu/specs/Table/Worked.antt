@@ -11,12 +11,12 @@ use Rattle.layer_traits.specs.declared.steps.Reason.TheVariants.{AllEnded, Trace
 use Rattle.guest.specs.declared.instructions.Instruction.{Instruction, TheVariants.{Set, Add, Send}}
 use Rattle.guest.specs.declared.instructions.Instruction.TheVariants.{Recv, Yield as YieldLine}
 use Rattle.guest.specs.declared.instructions.Instruction.TheVariants.{Exit}
-use Rattle.guest.specs.declared.instructions.{Into.TheVariants.One as ToOne, Register.Register}
+use Rattle.guest.specs.declared.instructions.{Target.TheVariants.One as ToOne, Register.Register}
 use Rattle.guest.specs.declared.instructions.Register.TheVariants.{Reg0, Reg1}
 use Rattle.guest.specs.declared.instructions.Source.TheVariants.{One as OfOne}
-use Rattle.cpu.specs.Table.{Blocks.{Block, OfBuffer, OfPending}, Setups.{Setup, Call, Private}}
-use Rattle.cpu.specs.Table.{Setups.thread_at, Steps.{Whole, cpu_numbered, whole_at_boot, steps_by}}
-use Rattle.cpu.specs.Table.Steps.{block_at, halted_at}
+use Rattle.cpu.specs.Table.{Blocks.{Block, OfBuffer, OfPending}, Setups.{SystemConfig, Call}}
+use Rattle.cpu.specs.Table.{Setups.{CpuLocal, thread_at}, Steps.{SystemState, cpu_numbered}}
+use Rattle.cpu.specs.Table.Steps.{whole_at_boot, steps_by, block_at, halted_at}
 
 abbrev pub thread : ℕ → Tid
 thread n = record { 0 = n }
@@ -33,54 +33,54 @@ abbrev pub of : ℕ → ℕ → Burst
 of cpu count = record { cpu = cpu; count = count }
 
 -- a system after a schedule
-abbrev pub after_bursts : Setup → List Burst → Whole → Whole
+abbrev pub after_bursts : SystemConfig → List Burst → SystemState → SystemState
 after_bursts setup [] s = s
 after_bursts setup (burst ∷ more) s =
     after_bursts setup more (steps_by setup (cpu_numbered burst.cpu) burst.count s)
 
 -- the same from boot, with room for 1000 steps
-abbrev pub reached : Setup → List Burst → Whole
+abbrev pub reached : SystemConfig → List Burst → SystemState
 reached setup schedule = after_bursts setup schedule (whole_at_boot setup 1000)
 
 -- What a system shows.
 
-abbrev pub traces : Whole → List (List Entry)
+abbrev pub traces : SystemState → List (List Entry)
 traces s = map (λ p. p.trace) s.cpus
 
-abbrev pub currents : Whole → List (Option Tid)
+abbrev pub currents : SystemState → List (Option Tid)
 currents s = map (λ p. p.current) s.cpus
 
-abbrev pub readies : Whole → List (List Tid)
+abbrev pub readies : SystemState → List (List Tid)
 readies s = map (λ p. p.ready) s.cpus
 
-abbrev pub hands : Whole → List (Option Tid)
+abbrev pub hands : SystemState → List (Option Tid)
 hands s = map (λ p. p.hand) s.cpus
 
 -- whether each thread has ended, CPU by CPU
-abbrev pub endings : Whole → List (List Bool)
+abbrev pub endings : SystemState → List (List Bool)
 endings s = map (λ p. map (λ x. x.ended) p.threads) s.cpus
 
-abbrev pub reason_of_cpu : Setup → ℕ → Option Private → Option Reason
+abbrev pub reason_of_cpu : SystemConfig → ℕ → Option CpuLocal → Option Reason
 reason_of_cpu setup c None = None
 reason_of_cpu setup c (Some p) = halted_at setup (cpu_numbered c) p
 
 -- why a CPU takes no step
-abbrev pub reason : Setup → ℕ → Whole → Option Reason
+abbrev pub reason : SystemConfig → ℕ → SystemState → Option Reason
 reason setup c s = reason_of_cpu setup c (slice_get s.cpus c)
 
-abbrev pub thread_call : ℕ → Option Private → Option Call
+abbrev pub thread_call : ℕ → Option CpuLocal → Option Call
 thread_call t None = None
 thread_call t (Some p) = (thread_at p (thread t)).call
 
 -- the call that a thread of this CPU is in
-abbrev pub call_of : ℕ → ℕ → Whole → Option Call
+abbrev pub call_of : ℕ → ℕ → SystemState → Option Call
 call_of c t s = thread_call t (slice_get s.cpus c)
 
 -- the block of a buffer, and the pending threads of a CPU
-abbrev pub buffer_block_of : Setup → ℕ → Whole → Option Block
+abbrev pub buffer_block_of : SystemConfig → ℕ → SystemState → Option Block
 buffer_block_of setup b s = block_at setup (AtBuffer (buffer_numbered b)) s.log
 
-abbrev pub pending_of : Setup → ℕ → Whole → Option Block
+abbrev pub pending_of : SystemConfig → ℕ → SystemState → Option Block
 pending_of setup c s = block_at setup (Pending (cpu_numbered c)) s.log
 
 -- the fields of a buffer in which it differs from a new one
@@ -103,7 +103,7 @@ parts_in (Some (OfBuffer k)) = Some (record {
 })
 
 -- what buffer 0 holds, and which threads wait for what at it
-abbrev pub at_buffer_0 : Setup → Whole → Option Parts
+abbrev pub at_buffer_0 : SystemConfig → SystemState → Option Parts
 at_buffer_0 setup s = parts_in (buffer_block_of setup 0 s)
 
 -- buffer 0 with these items, for which no thread waits
@@ -153,7 +153,7 @@ as_entry cpu t kind b m op pos =
 -- Setups.
 
 -- the home CPU of each thread by number, its program, the capacities and the room of a trace
-abbrev pub setup_of : ℕ → List ℕ → List (List Instruction) → List ℕ → ℕ → Setup
+abbrev pub setup_of : ℕ → List ℕ → List (List Instruction) → List ℕ → ℕ → SystemConfig
 setup_of cpus homes programs caps trace_room =
     record {
       cpus = cpus;
@@ -185,48 +185,48 @@ abbrev pub receives_one : List Instruction
 receives_one = receive_into Reg0 ∷ []
 
 -- one thread that sends once and ends
-abbrev pub one_sender : Setup
+abbrev pub one_sender : SystemConfig
 one_sender = setup_of 1 (0 ∷ []) ((Set Reg0 7 ∷ send_from Reg0 ∷ Exit ∷ []) ∷ []) (1 ∷ []) 4
 
 -- one thread that sends twice into a buffer for one
-abbrev pub two_sends : Setup
+abbrev pub two_sends : SystemConfig
 two_sends = setup_of 1 (0 ∷ []) (sends_twice 7 ∷ []) (1 ∷ []) 4
 
 -- a receiver on CPU 0 and a sender on CPU 1
-abbrev pub two_cpus : Setup
+abbrev pub two_cpus : SystemConfig
 two_cpus = setup_of 2 (0 ∷ 1 ∷ []) (receives_one ∷ sends_one 7 ∷ []) (1 ∷ []) 4
 
 -- receivers on CPUs 0 and 1, and on CPU 2 a thread that sends twice
-abbrev pub two_receivers : Setup
+abbrev pub two_receivers : SystemConfig
 two_receivers =
     setup_of 3 (0 ∷ 1 ∷ 2 ∷ []) (receives_one ∷ receives_one ∷ sends_two 7 8 ∷ []) (2 ∷ []) 4
 
 -- three senders on three CPUs
-abbrev pub three_senders : Setup
+abbrev pub three_senders : SystemConfig
 three_senders =
     setup_of 3 (0 ∷ 1 ∷ 2 ∷ []) (sends_one 1 ∷ sends_one 2 ∷ sends_one 3 ∷ []) (4 ∷ []) 4
 
 -- one thread that sends twice, on a CPU whose trace has room for one entry
-abbrev pub short_trace : Setup
+abbrev pub short_trace : SystemConfig
 short_trace = setup_of 1 (0 ∷ []) (sends_twice 7 ∷ []) (32 ∷ []) 1
 
 -- one thread that sends a sum which wraps round to 0
-abbrev pub wrapping_sum : Setup
+abbrev pub wrapping_sum : SystemConfig
 wrapping_sum = setup_of 1 (0 ∷ [])
     ((Set Reg0 18446744073709551615 ∷ Set Reg1 1 ∷ Add Reg0 Reg1 ∷ send_from Reg0 ∷ Exit ∷ []) ∷ [])
     (1 ∷ []) 4
 
 -- receivers on CPUs 0 and 2, and a sender on CPU 1
-abbrev pub receivers_apart : Setup
+abbrev pub receivers_apart : SystemConfig
 receivers_apart =
     setup_of 3 (0 ∷ 1 ∷ 2 ∷ []) (receives_one ∷ sends_one 7 ∷ receives_one ∷ []) (2 ∷ []) 4
 
 -- a receiver and a sender on one CPU
-abbrev pub one_cpu : Setup
+abbrev pub one_cpu : SystemConfig
 one_cpu = setup_of 1 (0 ∷ 0 ∷ []) (receives_one ∷ sends_one 7 ∷ []) (1 ∷ []) 4
 
 -- a thread that yields and one that ends
-abbrev pub a_yield : Setup
+abbrev pub a_yield : SystemConfig
 a_yield = setup_of 1 (0 ∷ 0 ∷ []) ((YieldLine ∷ []) ∷ (Exit ∷ []) ∷ []) (1 ∷ []) 4
 
 -- The runs.

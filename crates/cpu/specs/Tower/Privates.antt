@@ -16,8 +16,8 @@ use Rattle.{layer_traits.specs.Polling.Plans.Left, event_log.specs.declared.entr
 use Rattle.event_log.specs.declared.{entries.Kind.Kind, ids.{BufId.BufId, CpuId.CpuId, Tid.Tid}}
 use Rattle.event_log.specs.{Messages.{Message, no_message}, Runs.{Group, Sends, Receives, Closes}}
 use Rattle.guest.specs.State.{State, at_start, next_of, after_yield}
-use Rattle.{thread_blocks.specs.Queues.is_in, cpu.specs.{Guests.after_answer, Table.Setups.Setup}}
-use Rattle.cpu.specs.Table.Setups.{Call, Thread, Private, program_of}
+use Rattle.{thread_blocks.specs.Queues.is_in, cpu.specs.Guests.after_answer}
+use Rattle.cpu.specs.Table.Setups.{SystemConfig, Call, Thread, CpuLocal, program_of}
 use Rattle.event_log.specs.declared.entries.Kind.TheVariants as kind
 use Rattle.layer_traits.specs.declared.calls.Call.TheVariants as asks
 use Rattle.layer_traits.specs.declared.passes.Pass.TheVariants as pass
@@ -99,13 +99,13 @@ thread_from call_state slept waits deferred ended guest = record {
 
 -- whether a result is kept for a thread
 abbrev pub is_deferred : Buffering → Tid → Bool
-is_deferred own u = is_thread u (threads_in own).current && is_some own.cv.lock.sleep.deferred
+is_deferred local u = is_thread u (threads_in local).current && is_some local.cv.lock.sleep.deferred
 
 abbrev pub thread_of : Buffering → Tid → State → Thread
-thread_of own u guest =
-    thread_from (call_state_of own.call_states u) (slept_for own.cv.lock.slept u)
-    (slept_for own.cv.waits u) (is_deferred own u)
-    (is_in u (threads_in own).ended) guest
+thread_of local u guest =
+    thread_from (call_state_of local.call_states u) (slept_for local.cv.lock.slept u)
+    (slept_for local.cv.waits u) (is_deferred local u)
+    (is_in u (threads_in local).ended) guest
 
 -- threads by number, from n upwards
 abbrev pub threads_numbered : (ℕ → State → Thread) → ℕ → List State → List Thread
@@ -116,12 +116,12 @@ abbrev pub tid : ℕ → Tid
 tid n = record { 0 = n }
 
 -- a CPU's private state: its part, one guest's state for each number, and its trace, oldest first
-abbrev pub private_of : Buffering → List State → List Entry → Private
-private_of own guests trace = record {
-  current = (threads_in own).current;
-  ready = (threads_in own).ready;
-  hand = (threads_in own).hand;
-  threads = threads_numbered (λ n. thread_of own (tid n)) 0 guests;
+abbrev pub cpu_local_of : Buffering → List State → List Entry → CpuLocal
+cpu_local_of local guests trace = record {
+  current = (threads_in local).current;
+  ready = (threads_in local).ready;
+  hand = (threads_in local).hand;
+  threads = threads_numbered (λ n. thread_of local (tid n)) 0 guests;
   trace = trace;
 }
 
@@ -129,7 +129,7 @@ abbrev pub state_at : List State → Tid → State
 state_at guests t = slice_index_or guests t.0 at_start
 
 -- the guests after a poll of a call: its caller's continues once the call replies
-abbrev pub guests_after : Setup → Tid → Option Reply → List State → List State
+abbrev pub guests_after : SystemConfig → Tid → Option Reply → List State → List State
 guests_after setup t None guests = guests
 guests_after setup t (Some reply) guests =
     slice_set guests t.0 (after_answer (Some reply)
@@ -142,22 +142,25 @@ trace_after c t b None (Some f) trace = trace ++ entry_of c t b f ∷ []
 trace_after c t b before after trace = trace
 
 -- the private state after a poll of a call
-abbrev pub private_after : Setup → CpuId → Tid → TowerCall → Buffering → List State → List Entry
-    → Left Buffering Reply → Private
-private_after setup c t call own guests trace left =
-    private_of left.own (guests_after setup t left.answer guests)
-    (trace_after c t (buffer_of call) (going (call_state_of own.call_states t) call).effect
-    (call_state_of left.own.call_states t).effect trace)
+abbrev pub cpu_local_after : SystemConfig → CpuId → Tid → TowerCall → Buffering → List State
+    → List Entry
+    → Left Buffering Reply → CpuLocal
+cpu_local_after setup c t call local guests trace left =
+    cpu_local_of left.local (guests_after setup t left.answer guests)
+    (trace_after c t (buffer_of call) (going (call_state_of local.call_states t) call).effect
+    (call_state_of left.local.call_states t).effect trace)
 
 -- the guests after a poll of a pass: that of a thread which has yielded continues
-abbrev pub guests_passed : Setup → Pass → Option Tid → Option (Unit {0}) → List State → List State
+abbrev pub guests_passed : SystemConfig → Pass → Option Tid → Option (Unit {0}) → List State
+    → List State
 guests_passed setup pass.YieldNow (Some t) (Some answer) guests =
     slice_set guests t.0 (after_yield (next_of (program_of setup t) (state_at guests t))
     (state_at guests t))
 guests_passed setup other current answer guests = guests
 
 -- the private state after a poll of a pass
-abbrev pub private_passed : Setup → Buffering → List State → List Entry → Pass
-    → Left Buffering (Unit {0}) → Private
-private_passed setup own guests trace p left =
-    private_of left.own (guests_passed setup p (threads_in own).current left.answer guests) trace
+abbrev pub cpu_local_passed : SystemConfig → Buffering → List State → List Entry → Pass
+    → Left Buffering (Unit {0}) → CpuLocal
+cpu_local_passed setup local guests trace p left =
+    cpu_local_of left.local (guests_passed setup p (threads_in local).current left.answer guests)
+    trace

@@ -2,12 +2,13 @@
 -- its block and its result.
 use Rattle.std.specs.Prelude.{◌≡◌, ℕ}
 use Rattle.event_log.specs.{declared.{entries.Kind.Kind, ids.Tid.Tid}, Messages.Message}
-use Rattle.layer_traits.specs.declared.locked.QEdit.TheVariants.{Acquire, Inside, Release}
-use Rattle.layer_traits.specs.declared.locked.{QOut.QOut, Side.{Side, TheVariants.Receivers}}
-use Rattle.layer_traits.specs.declared.locked.Side.TheVariants.{Senders}
+use Rattle.layer_traits.specs.declared.locked.QLockCall.TheVariants.{Acquire, Inside, Release}
+use Rattle.layer_traits.specs.declared.locked.{QLockReply.QLockReply, Side.Side}
+use Rattle.layer_traits.specs.declared.locked.Side.TheVariants.{Receivers, Senders}
 use Rattle.layer_traits.specs.declared.conditions.CvEdit.TheVariants.{Edit, SignalFront}
-use Rattle.layer_traits.specs.declared.conditions.{CvLeave.TheVariants.{Leave, Wait}, CvOut.CvOut}
-use Rattle.layer_traits.specs.declared.buffer_edits.{BufferEdit.BufferEdit, BufferOut.BufferOut}
+use Rattle.layer_traits.specs.declared.conditions.CvLeave.TheVariants.{Leave, Wait}
+use Rattle.layer_traits.specs.declared.conditions.CvReply.{CvReply}
+use Rattle.layer_traits.specs.declared.buffer_edits.{BufferEdit.BufferEdit, BufferReply.BufferReply}
 use Rattle.layer_traits.specs.declared.queue_edits.{QueueBlock.QueueBlock, QueueEdit.QueueEdit}
 use Rattle.layer_traits.specs.declared.{queue_edits.QueueAnswer.QueueAnswer, sleeps.Outcome.Outcome}
 use Rattle.layer_traits.specs.Blocks.{BufferBlocks.BufferState, BufferProtocol.buffer_rules}
@@ -19,10 +20,10 @@ use Rattle.cpu.specs.Table.Blocks.{Shut, WaitOn, SigRecv, SigSend, RelQ, Pend, T
 use Rattle.cpu.specs.Table.Blocks.{Nothing, Position, Done, WasClosed, DidShut, NotYet, Drained}
 use Rattle.cpu.specs.Table.{Blocks.Answer, Edits.{edited, answer, reports}}
 use Rattle.event_log.specs.declared.entries.Kind.TheVariants as kind
-use Rattle.layer_traits.specs.declared.locked.QOut.TheVariants as lock
-use Rattle.layer_traits.specs.declared.conditions.CvOut.TheVariants as cv
+use Rattle.layer_traits.specs.declared.locked.QLockReply.TheVariants as lock
+use Rattle.layer_traits.specs.declared.conditions.CvReply.TheVariants as cv
 use Rattle.layer_traits.specs.declared.buffer_edits.BufferEdit.TheVariants as edit
-use Rattle.layer_traits.specs.declared.buffer_edits.BufferOut.TheVariants as out
+use Rattle.layer_traits.specs.declared.buffer_edits.BufferReply.TheVariants as out
 use Rattle.layer_traits.specs.declared.queue_edits.QueueBlock.TheVariants as block
 use Rattle.layer_traits.specs.declared.queue_edits.QueueEdit.TheVariants as queue
 use Rattle.layer_traits.specs.declared.queue_edits.QueueAnswer.TheVariants as told
@@ -31,11 +32,11 @@ use Rattle.layer_traits.specs.declared.queue_edits.QueueAnswer.TheVariants as to
 abbrev pub TowerName : Type 0
 TowerName = QueueEdit (CvCall BufferEdit)
 
-abbrev pub TowerOut : Type 0
-TowerOut = Outcome (QOut (CvOut BufferOut))
+abbrev pub TowerReply : Type 0
+TowerReply = Outcome (QLockReply (CvReply BufferReply))
 
 abbrev pub TowerAnswer : Type 0
-TowerAnswer = QueueAnswer TowerOut
+TowerAnswer = QueueAnswer TowerReply
 
 abbrev pub TowerBlock : Type 0
 TowerBlock = QueueBlock (LockState BufferState)
@@ -108,19 +109,19 @@ report_of kind.SendClosed op m = WasClosed op
 report_of kind.RecvClosed op m = WasClosed op
 
 -- what the results of the layers report
-abbrev pub report_above : BufferOut → Reported
+abbrev pub report_above : BufferReply → Reported
 report_above (out.Entered pos) = Position pos
 report_above out.NotYet = NotYet
 report_above (out.Done kind op m) = report_of kind op m
 report_above (out.WasShut op pos) = DidShut op pos
 
-abbrev pub report_inside : CvOut BufferOut → Reported
+abbrev pub report_inside : CvReply BufferReply → Reported
 report_inside (cv.Did o) = report_above o
 report_inside (cv.Signalled side front) = Nothing
 report_inside cv.Left = Nothing
 report_inside (cv.Waited side) = Nothing
 
-abbrev pub report_in : QOut (CvOut BufferOut) → Reported
+abbrev pub report_in : QLockReply (CvReply BufferReply) → Reported
 report_in lock.Acquired = Nothing
 report_in lock.Queued = Nothing
 report_in (lock.Did o) = report_inside o

@@ -11,10 +11,10 @@ use Rattle.event_log.specs.{Actions.{phase, Rests, AreFree}, History.same_cpu}
 use Rattle.guest.specs.declared.instructions.Instruction.{Instruction, TheVariants.{Send, Recv}}
 use Rattle.guest.specs.declared.instructions.Instruction.TheVariants.{Close}
 use Rattle.layer_traits.specs.declared.locked.Side.{Side, TheVariants.{Receivers, Senders}}
-use Rattle.cpu.specs.Table.{Blocks.{Buffer, OfBuffer, front, front_stands_in}, Setups.{Call, Setup}}
-use Rattle.cpu.specs.Table.{Setups.{Private, home_cpu, thread_at, stands_at}, Steps.Whole}
-use Rattle.cpu.specs.Table.{Steps.{IsReached, block_at, halted_at, steps_by}, Edits.line_on}
-use Rattle.cpu.specs.{Table.Edits.waiting_of, Wakeups.{Lost.Allows, Quiet.AreFew}}
+use Rattle.cpu.specs.Table.{Blocks.{Buffer, OfBuffer, front, front_stands_in}, Setups.Call}
+use Rattle.cpu.specs.Table.Setups.{SystemConfig, CpuLocal, home_cpu, thread_at, stands_at}
+use Rattle.cpu.specs.Table.Steps.{SystemState, IsReached, block_at, halted_at, steps_by}
+use Rattle.cpu.specs.{Table.Edits.{line_on, waiting_of}, Wakeups.{Lost.Allows, Quiet.AreFew}}
 
 -- the instruction is a send, a receive, or a close, of this buffer
 abbrev pub IsCallOn : Group → BufId → Instruction → Type 0
@@ -32,7 +32,8 @@ HasEmptyLine Closes k = Unit {0}
 -- CPU c rests and is not halted, no spin lock is held or requested, and the running thread t is at
 -- a call that has not begun; no thread owns its buffer, which allows the call, and the call's line
 -- is empty
-pub record IsReady (setup : Setup) (c : CpuId) (s : Whole) (p : Private) (t : Tid) : Type 0 where
+pub record IsReady (setup : SystemConfig) (c : CpuId) (s : SystemState) (p : CpuLocal)
+    (t : Tid) : Type 0 where
   pub free : AreFree s.log
   pub rests : phase c s.log ≡ Rests
   pub here : slice_get s.cpus c.0 ≡ Some p
@@ -53,9 +54,9 @@ pub record IsReady (setup : Setup) (c : CpuId) (s : Whole) (p : Private) (t : Ti
 
 -- the thread is inside no call, and the trace of its CPU has one entry more, of this thread, kind
 -- and buffer
-pub record HasReturned (s : Whole) (c : CpuId) (p : Private) (t : Tid) (kind : Kind)
+pub record HasReturned (s : SystemState) (c : CpuId) (p : CpuLocal) (t : Tid) (kind : Kind)
     (b : BufId) : Type 0 where
-  pub now : Private
+  pub now : CpuLocal
   pub here : slice_get s.cpus c.0 ≡ Some now
   pub outside : (thread_at now t).call ≡ None
   pub entry : Entry
@@ -63,8 +64,8 @@ pub record HasReturned (s : Whole) (c : CpuId) (p : Private) (t : Tid) (kind : K
   pub is_of : (entry.thread ≡ t) × (entry.kind ≡ kind) × (entry.buffer ≡ b)
 
 -- thread t of CPU c is inside a call
-pub record IsInCall (s : Whole) (c : CpuId) (t : Tid) : Type 0 where
-  pub now : Private
+pub record IsInCall (s : SystemState) (c : CpuId) (t : Tid) : Type 0 where
+  pub now : CpuLocal
   pub here : slice_get s.cpus c.0 ≡ Some now
   pub call : Call
   pub inside : (thread_at now t).call ≡ Some call
@@ -75,18 +76,18 @@ first_waiter side k =
     if front_stands_in (line_on side k) (waiting_of side k) then front (line_on side k) else None
 
 -- whether the first of a line waits and is of another CPU
-abbrev pub is_away : Setup → CpuId → Option Tid → Bool
+abbrev pub is_away : SystemConfig → CpuId → Option Tid → Bool
 is_away setup c None = false
 is_away setup c (Some u) = not (same_cpu (home_cpu setup u) c)
 
 -- three steps more for a woken thread of another CPU, to append it to the pending threads there
-abbrev pub steps_to_move : Setup → CpuId → Option Tid → ℕ
+abbrev pub steps_to_move : SystemConfig → CpuId → Option Tid → ℕ
 steps_to_move setup c woke = if is_away setup c woke then 3 else 0
 
 -- How many steps such a call takes. A send and a receive have six sections of three steps each, and
 -- wake the first of the other side's line, if that thread waits. A call that finds its buffer
 -- closed wakes no thread. A close has five sections, and wakes the first of each line.
-abbrev pub steps_to_return : Setup → CpuId → Kind → Buffer → ℕ
+abbrev pub steps_to_return : SystemConfig → CpuId → Kind → Buffer → ℕ
 steps_to_return setup c SendKind k = 18 + steps_to_move setup c (first_waiter Receivers k)
 steps_to_return setup c RecvKind k = 18 + steps_to_move setup c (first_waiter Senders k)
 steps_to_return setup c SendClosed k = 18
@@ -99,7 +100,8 @@ steps_to_return setup c CloseKind k =
 -- is still under way
 abbrev pub CallsReturnAlone : Type 0
 CallsReturnAlone =
-    (setup : Setup) (room : ℕ) (s : Whole) (c : CpuId) (p : Private) (t : Tid) → AreFew setup
+    (setup : SystemConfig) (room : ℕ) (s : SystemState) (c : CpuId) (p : CpuLocal) (t : Tid)
+    → AreFew setup
     → IsReached setup room s
     → (ready : IsReady setup c s p t) → s.taken + 21 ≤ s.room
     → HasReturned (steps_by setup c (steps_to_return setup c ready.effect ready.block) s) c p t

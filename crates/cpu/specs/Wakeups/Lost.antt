@@ -6,10 +6,10 @@ use Rattle.event_log.specs.declared.{ids.LockId.TheVariants.Buffer as AtBuffer, 
 use Rattle.event_log.specs.{Messages.Message, Buffers.IsAllowedEffect, Runs.{Sends, Receives}}
 use Rattle.event_log.specs.{Runs.group_of, History.own_events, Actions.{Action, cpu_of_action}}
 use Rattle.{event_log.specs.Sections.{Section, sections_in}, cpu.specs.Table.Blocks.Buffer}
-use Rattle.cpu.specs.Table.{Blocks.{OfBuffer, Name, front, stands_in}, Setups.{Setup, Private}}
-use Rattle.cpu.specs.Table.{Steps.{Whole, IsReached, block_at, AlongTable}, Edits.line_on}
-use Rattle.cpu.specs.{Table.Edits.{waiting_of, on_side}, Wakeups.Order.{block_of, IsInOrder}}
-use Rattle.layer_traits.specs.declared.locked.Side.{Side}
+use Rattle.cpu.specs.Table.{Blocks.{OfBuffer, Name, front, stands_in}, Setups.SystemConfig}
+use Rattle.cpu.specs.Table.{Setups.CpuLocal, Steps.{SystemState, IsReached, block_at, AlongTable}}
+use Rattle.cpu.specs.{Table.Edits.{line_on, waiting_of, on_side}, Wakeups.Order.block_of}
+use Rattle.{cpu.specs.Wakeups.Order.IsInOrder, layer_traits.specs.declared.locked.Side.Side}
 
 -- the buffer allows an effect of this kind with this message
 abbrev pub Allows : Buffer → Kind → Message → Type 0
@@ -23,47 +23,50 @@ pub record NoWakeUpIsLost (k : Buffer) : Type 0 where
       → (e : Kind) → group_of e ≡ on_side side Receives Sends → Allows k e m → ⊥
 
 -- after these actions no wake-up is lost
-abbrev pub LosesNoWakeUp : Setup → List (Action Name) → Type 0
+abbrev pub LosesNoWakeUp : SystemConfig → List (Action Name) → Type 0
 LosesNoWakeUp setup log =
     (b : BufId) (k : Buffer) → block_at setup (AtBuffer b) log ≡ Some (OfBuffer k)
     → NoWakeUpIsLost k
 
 -- sections in the order that their calls prescribe lose no wake-up, under every interleaving
 abbrev pub OrderLosesNoWakeUp : Type 0
-OrderLosesNoWakeUp = (setup : Setup) (sections : List (Section Name)) → IsInOrder setup sections
+OrderLosesNoWakeUp =
+    (setup : SystemConfig) (sections : List (Section Name)) → IsInOrder setup sections
     → (b : BufId) (k : Buffer) → block_of setup (AtBuffer b) sections ≡ Some (OfBuffer k)
     → NoWakeUpIsLost k
 
 -- in every state that a system reaches, the sections are in the order that their calls prescribe
 abbrev pub SystemsKeepOrder : Type 0
 SystemsKeepOrder =
-    (setup : Setup) (room : ℕ) (s : Whole) → IsReached setup room s
+    (setup : SystemConfig) (room : ℕ) (s : SystemState) → IsReached setup room s
     → IsInOrder setup (sections_in s.log)
 
 -- therefore no state that a system reaches has lost a wake-up
 abbrev pub SystemsLoseNoWakeUp : Type 0
 SystemsLoseNoWakeUp =
-    (setup : Setup) (room : ℕ) (s : Whole) → IsReached setup room s → LosesNoWakeUp setup s.log
+    (setup : SystemConfig) (room : ℕ) (s : SystemState) → IsReached setup room s
+    → LosesNoWakeUp setup s.log
 
 -- while no thread owns a lock, no thread sleeps at it
 abbrev pub FreeLocksHaveNoSleepers : Type 0
-FreeLocksHaveNoSleepers = (setup : Setup) (room : ℕ) (s : Whole) → IsReached setup room s
+FreeLocksHaveNoSleepers =
+    (setup : SystemConfig) (room : ℕ) (s : SystemState) → IsReached setup room s
     → (b : BufId) (k : Buffer) → block_at setup (AtBuffer b) s.log ≡ Some (OfBuffer k)
     → k.busy ≡ None → k.sleepers ≡ []
 
 -- a CPU has done its share of this list of actions according to the table
-pub record RanItsPart (setup : Setup) (c : CpuId) (log : List (Action Name)) : Type 0 where
+pub record RanItsPart (setup : SystemConfig) (c : CpuId) (log : List (Action Name)) : Type 0 where
   pub count : ℕ
-  pub last : Private
+  pub last : CpuLocal
   pub steps : AlongTable setup c count last log
 
 -- each CPU has done its share of this list according to the table, and every action of the list is
 -- of one of these CPUs
-pub record IsWorked (setup : Setup) (log : List (Action Name)) : Type 0 where
+pub record IsWorked (setup : SystemConfig) (log : List (Action Name)) : Type 0 where
   pub ran : (c : CpuId) → c.0 < setup.cpus → RanItsPart setup c log
   pub rest : (c : CpuId) → setup.cpus ≤ c.0 → own_events cpu_of_action c log ≡ []
 
 -- CPUs that each work according to the table on one list lose no wake-up
 abbrev pub CpusLoseNoWakeUp : Type 0
 CpusLoseNoWakeUp =
-    (setup : Setup) (log : List (Action Name)) → IsWorked setup log → LosesNoWakeUp setup log
+    (setup : SystemConfig) (log : List (Action Name)) → IsWorked setup log → LosesNoWakeUp setup log

@@ -2,11 +2,12 @@
 -- table's system.
 use Rattle.std.specs.{Prelude.{◌≡◌, ℕ, ◌<◌, ◌≤◌, List, length, Some, slice_get}, List.All}
 use Rattle.{event_log.specs.{declared.ids.CpuId.CpuId, Actions.Action}, cpu.specs.Sound.after_steps}
-use Rattle.cpu.specs.{Wakeups.Lost.IsWorked, Table.{Blocks.Name, Setups.Setup, Steps.whole_at_boot}}
+use Rattle.cpu.specs.{Wakeups.Lost.IsWorked, Table.{Blocks.Name, Setups.SystemConfig}}
+use Rattle.cpu.specs.Table.Steps.{whole_at_boot}
 
 -- Under some schedule the table's system, with room for it, leaves exactly this list, and each CPU
 -- in the private state that it reached along the list.
-pub record IsRunOfTable (setup : Setup) (log : List (Action Name))
+pub record IsRunOfTable (setup : SystemConfig) (log : List (Action Name))
     (worked : IsWorked setup log) : Type 0 where
   pub steps : List CpuId
   pub known : All (λ c. c.0 < setup.cpus) steps
@@ -24,5 +25,5 @@ pub record IsRunOfTable (setup : Setup) (log : List (Action Name))
 -- therefore all such work is a run
 abbrev pub WorkIsARun : Type 0
 WorkIsARun =
-    (setup : Setup) (log : List (Action Name)) (worked : IsWorked setup log)
+    (setup : SystemConfig) (log : List (Action Name)) (worked : IsWorked setup log)
     → IsRunOfTable setup log worked

@@ -2,17 +2,17 @@
 -- worked runs.
 use Rattle.std.specs.Prelude.{◌≡◌, ◌+◌, ◌≤◌, [], ◌∷◌, Some, None, option_map}
 use Rattle.layer_traits.specs.declared.call_states.Stage.TheVariants.{Releases}
-use Rattle.cpu.specs.Table.{Setups.Private, Steps.{Whole, IsReached, cpu_numbered}}
+use Rattle.cpu.specs.Table.{Setups.CpuLocal, Steps.{SystemState, IsReached, cpu_numbered}}
 use Rattle.cpu.specs.Table.{Closing.{closed_apart, closed_aside}, Worked.{thread, of, reached}}
 use Rattle.cpu.specs.{Table.Worked.{one_sender, two_sends, two_cpus, call_of}, Wakeups.Quiet.AreFew}
 use Rattle.cpu.specs.Wakeups.{Quiet.{HomesExist, IsQuietTable}, Alone.IsReady}
 
 -- one thread that waits to send into a full buffer; its quiescent state
-abbrev pub waiting_sender : Whole
+abbrev pub waiting_sender : SystemState
 waiting_sender = reached two_sends (of 0 32 ∷ [])
 
 -- one thread that is at its send
-abbrev pub at_send : Whole
+abbrev pub at_send : SystemState
 at_send = reached one_sender (of 0 2 ∷ [])
 
 pub record PremisesAreMet : Type 0 where
@@ -21,7 +21,7 @@ pub record PremisesAreMet : Type 0 where
       × IsQuietTable two_sends waiting_sender
   -- a state is reached at which a call is ready, with room for it
   pub ready : AreFew one_sender × IsReached one_sender 1000 at_send
-      × ((p : Private) × IsReady one_sender (cpu_numbered 0) at_send p (thread 0))
+      × ((p : CpuLocal) × IsReady one_sender (cpu_numbered 0) at_send p (thread 0))
       × (at_send.taken + 21 ≤ at_send.room)
   -- that call is under way after 17 steps and has returned after 18
   pub after_18 : (option_map (λ call. call.stage) (call_of 0 0 (reached one_sender (of 0 19 ∷ [])))

@@ -4,12 +4,12 @@ use Rattle.event_log.specs.{declared.ids.LockId.TheVariants.Buffer as AtBuffer, 
 use Rattle.event_log.specs.Sections.{Section}
 use Rattle.layer_traits.specs.declared.locked.Side.TheVariants.{Receivers, Senders}
 use Rattle.cpu.specs.Table.Blocks.{Buffer, OfBuffer, Name, AcqQ, Enter, TryPut, TryTake, Shut}
-use Rattle.cpu.specs.Table.{Blocks.{WaitOn, SigRecv, SigSend, RelQ}, Setups.Setup}
+use Rattle.cpu.specs.Table.{Blocks.{WaitOn, SigRecv, SigSend, RelQ}, Setups.SystemConfig}
 use Rattle.cpu.specs.Table.{Steps.cpu_numbered, Worked.{thread, buffer_numbered, setup_of}}
 use Rattle.cpu.specs.Wakeups.{Order.block_of, Lost.NoWakeUpIsLost}
 
 -- three threads, the home of each the CPU of its number, and one buffer for two messages
-abbrev pub three_threads : Setup
+abbrev pub three_threads : SystemConfig
 three_threads = setup_of 3 (0 ∷ 1 ∷ 2 ∷ []) [] (2 ∷ []) 4
 
 -- a section of a thread on the buffer

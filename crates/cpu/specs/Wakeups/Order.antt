@@ -7,7 +7,7 @@ use Rattle.event_log.specs.{History.{same_lock, IsLawful}, Sections.{Section, bl
 use Rattle.layer_traits.specs.declared.locked.Side.{Side, TheVariants.{Receivers, Senders}}
 use Rattle.cpu.specs.Table.Blocks.{Buffer, Block, OfBuffer, OfPending, Name, AcqQ, Enter, TryPut}
 use Rattle.cpu.specs.Table.Blocks.{TryTake, Shut, WaitOn, SigRecv, SigSend, RelQ, Pend, TakeAll}
-use Rattle.cpu.specs.Table.{Edits.{edited, may_try}, Setups.{Setup, opening}}
+use Rattle.cpu.specs.Table.{Edits.{edited, may_try}, Setups.{SystemConfig, opening}}
 
 -- what the owner of a buffer's lock has done since it acquired it: nothing, it entered a line, a
 -- try of it failed, or it took effect and owes the signals that are true. While no thread owns the
@@ -44,11 +44,11 @@ progress_by name (Some (OfPending threads)) g = g
 progress_by name None g = g
 
 -- the block of a lock after these sections
-abbrev pub block_of : Setup → LockId → List (Section Name) → Option Block
+abbrev pub block_of : SystemConfig → LockId → List (Section Name) → Option Block
 block_of setup lock past = block_after edited (opening setup) lock past
 
 -- the progress of the owner of this lock after these sections
-abbrev pub progress : Setup → LockId → List (Section Name) → Progress
+abbrev pub progress : SystemConfig → LockId → List (Section Name) → Progress
 progress setup lock [] = Begins
 progress setup lock (s ∷ past) =
     if same_lock lock s.lock
@@ -86,15 +86,15 @@ MayEditBlock name (Some (OfBuffer k)) g = MayEdit name k g
 MayEditBlock name (Some (OfPending threads)) g = Unit {0}
 MayEditBlock name None g = Unit {0}
 
-abbrev pub KeepsOrderAt : Setup → LockId → Name → List (Section Name) → Type 0
+abbrev pub KeepsOrderAt : SystemConfig → LockId → Name → List (Section Name) → Type 0
 KeepsOrderAt setup (AtBuffer b) name past =
     MayEditBlock name (block_of setup (AtBuffer b) past) (progress setup (AtBuffer b) past)
 KeepsOrderAt setup (Pending c) name past = Unit {0}
 
 -- a section keeps the order that its call prescribes
-abbrev pub KeepsOrder : Setup → List (Section Name) → Section Name → Type 0
+abbrev pub KeepsOrder : SystemConfig → List (Section Name) → Section Name → Type 0
 KeepsOrder setup past s = KeepsOrderAt setup s.lock s.edit past
 
 -- each of these sections keeps the order that its call prescribes
-abbrev pub IsInOrder : Setup → List (Section Name) → Type 0
+abbrev pub IsInOrder : SystemConfig → List (Section Name) → Type 0
 IsInOrder setup sections = IsLawful (KeepsOrder setup) sections

@@ -12,30 +12,30 @@ use Rattle.guest.specs.declared.instructions.Instruction.{Instruction, TheVarian
 use Rattle.guest.specs.declared.instructions.Instruction.TheVariants.{Jnz, Send, Recv, Close}
 use Rattle.guest.specs.declared.instructions.Instruction.TheVariants.{Yield as YieldLine, Exit}
 use Rattle.{guest.specs.State.{State, message_from}, cpu.specs.Table.Blocks.{Buffer, OfBuffer}}
-use Rattle.cpu.specs.Table.{Blocks.OfPending, Setups.{Setup, Call, Private, thread_at, home_cpu}}
-use Rattle.cpu.specs.Table.{Setups.stands_at, Steps.{Whole, IsReached, block_at, halted_at}}
-use Rattle.cpu.specs.Wakeups.Lost.{Allows}
+use Rattle.cpu.specs.Table.{Blocks.OfPending, Setups.{SystemConfig, Call, CpuLocal, thread_at}}
+use Rattle.cpu.specs.Table.{Setups.{home_cpu, stands_at}, Steps.{SystemState, IsReached, block_at}}
+use Rattle.cpu.specs.{Table.Steps.halted_at, Wakeups.Lost.Allows}
 
 -- no more threads than a machine may have
-abbrev pub AreFew : Setup → Type 0
+abbrev pub AreFew : SystemConfig → Type 0
 AreFew setup = length setup.homes ≤ THREADS
 
 -- and the home CPU of each is one of this machine
-abbrev pub HomesExist : Setup → Type 0
+abbrev pub HomesExist : SystemConfig → Type 0
 HomesExist setup =
     AreFew setup × ((t : Tid) → t.0 < length setup.homes → (home_cpu setup t).0 < setup.cpus)
 
 -- a halted CPU is quiet if each of its threads has ended, any other if no thread runs on it, is
 -- ready or is in its hand
-abbrev pub IsQuietBy : Setup → CpuId → Private → Option Reason → Type 0
+abbrev pub IsQuietBy : SystemConfig → CpuId → CpuLocal → Option Reason → Type 0
 IsQuietBy setup c p (Some reason) =
     (u : Tid) → home_cpu setup u ≡ c → u.0 < length setup.homes → (thread_at p u).ended ≡ true
 IsQuietBy setup c p None = (p.current ≡ None) × (p.ready ≡ []) × (p.hand ≡ None)
 
 -- no section is under way, each CPU is quiet, and no thread is pending
-pub record IsQuietTable (setup : Setup) (s : Whole) : Type 0 where
+pub record IsQuietTable (setup : SystemConfig) (s : SystemState) : Type 0 where
   pub outside : (c : CpuId) → c.0 < setup.cpus → is_in_section (phase c s.log) ≡ false
-  pub cpus : (c : CpuId) (p : Private) → slice_get s.cpus c.0 ≡ Some p
+  pub cpus : (c : CpuId) (p : CpuLocal) → slice_get s.cpus c.0 ≡ Some p
       → IsQuietBy setup c p (halted_at setup c p)
   pub pending : (c : CpuId) → c.0 < setup.cpus
       → block_at setup (Pending c) s.log ≡ Some (OfPending [])
@@ -55,7 +55,8 @@ IsNextEffect Exit s asks d m = ⊥
 
 -- a call that has not taken effect, is what its thread asks for next, and whose buffer allows no
 -- effect of it: therefore it is no close, and its buffer is not closed
-pub record IsStuckCall (setup : Setup) (s : Whole) (p : Private) (u : Tid) (call : Call) : Type
+pub record IsStuckCall (setup : SystemConfig) (s : SystemState) (p : CpuLocal) (u : Tid)
+    (call : Call) : Type
     0 where
   pub unfinished : call.effect ≡ None
   pub next : IsNextEffect (stands_at setup p u) (thread_at p u).guest call.asks call.buffer
@@ -67,19 +68,19 @@ pub record IsStuckCall (setup : Setup) (s : Whole) (p : Private) (u : Tid) (call
       → k.closed ≡ false
 
 -- a thread that has not ended, whose home is a CPU with this private state
-pub record IsLive (setup : Setup) (s : Whole) (p : Private) (u : Tid) : Type 0 where
+pub record IsLive (setup : SystemConfig) (s : SystemState) (p : CpuLocal) (u : Tid) : Type 0 where
   pub known : u.0 < length setup.homes
   pub here : slice_get s.cpus (home_cpu setup u).0 ≡ Some p
   pub alive : (thread_at p u).ended ≡ false
 
 -- no thread owns a lock or sleeps at one; each live thread is inside a call that its buffer does
 -- not allow; and no next effect of a live thread is allowed
-pub record IsStuck (setup : Setup) (s : Whole) : Type 0 where
+pub record IsStuck (setup : SystemConfig) (s : SystemState) : Type 0 where
   pub unowned : (b : BufId) (k : Buffer) → block_at setup (AtBuffer b) s.log ≡ Some (OfBuffer k)
       → (k.busy ≡ None) × (k.sleepers ≡ [])
-  pub threads : (p : Private) (u : Tid) → IsLive setup s p u
+  pub threads : (p : CpuLocal) (u : Tid) → IsLive setup s p u
       → (call : Call) × ((thread_at p u).call ≡ Some call) × IsStuckCall setup s p u call
-  pub effects : (p : Private) (u : Tid) → IsLive setup s p u
+  pub effects : (p : CpuLocal) (u : Tid) → IsLive setup s p u
       → (e : Kind) (asks : Group) (b : BufId) (m : Message)
       → group_of e ≡ asks → IsNextEffect (stands_at setup p u) (thread_at p u).guest asks b m
       → (k : Buffer) → block_at setup (AtBuffer b) s.log ≡ Some (OfBuffer k) → Allows k e m → ⊥
@@ -87,5 +88,5 @@ pub record IsStuck (setup : Setup) (s : Whole) : Type 0 where
 -- in a quiescent state that a system reaches, no thread can make progress
 abbrev pub QuietIsStuck : Type 0
 QuietIsStuck =
-    (setup : Setup) (room : ℕ) (s : Whole) → HomesExist setup → IsReached setup room s
+    (setup : SystemConfig) (room : ℕ) (s : SystemState) → HomesExist setup → IsReached setup room s
     → IsQuietTable setup s → IsStuck setup s

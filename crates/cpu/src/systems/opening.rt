@@ -35,10 +35,10 @@ impl<I: CallLayer<IpcLaw>> Cpu<I> {
             (vec_capacity c.trace)) }
         ensures cpu { IfOk result (λ c. I.cpu_of c.part ≡ number) }
         ensures under_way { IfOk result (λ c. I.under_way c.part ≡ None) }
-        ensures own { IfOk result (λ c. I.own c.part ≡ buffering_at_start homes.now number) }
-        ensures fits { IfOk result
+        ensures local { IfOk result (λ c. I.local c.part ≡ buffering_at_start homes.now number) }
+        ensures coupled { IfOk result
             (λ c. (m : I.Machine) → I.IsFresh m homes.now number
-            → length (caps_in (I.opening m)) ≡ buffers → I.Fits c.part m) }
+            → length (caps_in (I.opening m)) ≡ buffers → I.Coupled c.part m) }
     {
         let trace = Vec::with_capacity(alloc, limit)?;
         Ok(Cpu {
@@ -72,10 +72,10 @@ fn cpus_at_boot<I: CallLayer<IpcLaw> + Drop>(
     requires few { length tables.items ≤ CPUS }
     ensures count { IfOk result (λ cpus. length cpus.items ≡ length tables.items) }
     ensures booted { IfOk result (λ cpus. (k : ℕ) (x : _) → slice_get cpus.items k ≡ Some x
-        → IsBootedAs (λ p (m : I.Machine). I.Fits p m) (λ m number. I.IsFresh m homes.now number)
+        → IsBootedAs (λ p (m : I.Machine). I.Coupled p m) (λ m number. I.IsFresh m homes.now number)
         (λ m. length (caps_in (I.opening m))) buffers homes.now k
         (slice_index_or (map (λ table. table.items) tables.items) k []) limit x.part
-        (I.cpu_of x.part) (I.own x.part)
+        (I.cpu_of x.part) (I.local x.part)
         (I.under_way x.part) x.number x.guests.items x.trace.items x.limit (vec_capacity x.trace)) }
 {
     let mut tables = tables;
@@ -96,8 +96,8 @@ impl<I: Owned + Drop> System<I>
 where
     I::Machine: Drop,
 {
-    ghost use Rattle.cpu.specs.{Boots.AreTables, Claims.{FollowPrograms, HasOneOrder, MovesAgree, StandsOnce, StayHome, cpu_shown, shown_of}, Cpus.IsCpu};
-    ghost use Rattle.cpu.specs.{Sound.{BootsByTable, SoundByTable}, Observed.ObservedByTable, Systems.IsSystem, Tables.IsTabled};
+    ghost use Rattle.cpu.specs.{Boots.AreTables, Claims.{MatchesPrograms, HasLinearization, MovesAgree, HasUniquePlace, KeepsAffinity, cpu_shown, shown_of}};
+    ghost use Rattle.cpu.specs.{Cpus.IsCpu, Sound.{BootsByTable, SoundByTable}, Observed.ObservedByTable, Systems.IsSystem, Tables.IsTabled};
     ghost use Rattle.layer_traits.specs.Views.Openings.{AreOpenable};
 
     /// Returns a system before its first step: buffers of these capacities, threads of these home
@@ -138,10 +138,10 @@ where
         ensures observed { IfOk result (λ s. I.IsStepwise → ObservedByTable s) }
 
         // This holds after every list of steps.
-        ensures one_order { IfOk result HasOneOrder }
-        ensures follow { IfOk result FollowPrograms }
-        ensures stay { IfOk result StayHome }
-        ensures once { IfOk result StandsOnce }
+        ensures linearization { IfOk result HasLinearization }
+        ensures follow { IfOk result MatchesPrograms }
+        ensures stay { IfOk result KeepsAffinity }
+        ensures once { IfOk result HasUniquePlace }
         ensures agree { IfOk result MovesAgree }
     {
         let machine = I::open(alloc, tables.len() as u8, caps, homes, room)?;
@@ -151,24 +151,25 @@ where
 
     /// Returns the system of a machine and its CPUs, before its first step.
     fn assembled(machine: I::Machine, cpus: Vec<Cpu<I>>, threads: usize, room: u64) -> System<I>
-        requires { IsSystem (λ c. I.Fits c.part machine × (I.cpu_of c.part ≡ c.number)
+        requires { IsSystem (λ c. I.Coupled c.part machine × (I.cpu_of c.part ≡ c.number)
             × IsCpu (homes_in (I.opening machine)) (length (caps_in (I.opening machine)))
-            (I.seen machine) (threads_in (I.own c.part))
-            (I.own c.part).call_states (I.under_way c.part) c.number c.guests.items c.trace.items
+            (I.history machine) (threads_in (I.local c.part))
+            (I.local c.part).call_states (I.under_way c.part) c.number c.guests.items c.trace.items
             c.limit (vec_capacity c.trace)
             × (I.IsStepwise
             → IsTabled (homes_in (I.opening machine)) (caps_in (I.opening machine)) c.number
-            (I.own c.part) (I.under_way c.part)
+            (I.local c.part) (I.under_way c.part)
             c.guests.items (I.opening machine)))
             (λ c. c.number) (λ c. I.ActsFor machine c) (λ c. I.MayHold machine c) I.IsStepwise
             (I.acts machine) cpus.items (homes_in (I.opening machine))
-            (I.seen machine) room 0 (I.room machine)
+            (I.history machine) room 0 (I.room machine)
             ((threads ≡ length (homes_in (I.opening machine))) × (I.IsStepwise → BootsByTable
-            (shown_of (caps_in (I.opening machine)) (homes_in (I.opening machine)) (I.seen machine)
+            (shown_of (caps_in (I.opening machine)) (homes_in (I.opening machine))
+            (I.history machine)
             (I.wait_lists machine) (I.owner machine)
             (I.moves machine) (I.acts machine)
-            (map (λ c. cpu_shown (threads_in (I.own c.part)) c.guests.items c.trace.items c.limit
-            (I.is_inside c.part) (I.own c.part)) cpus.items) room 0))) }
+            (map (λ c. cpu_shown (threads_in (I.local c.part)) c.guests.items c.trace.items c.limit
+            (I.is_inside c.part) (I.local c.part)) cpus.items) room 0))) }
         ensures caps { result.caps ≡ caps_in (I.opening machine) }
         ensures homes { result.homes ≡ homes_in (I.opening machine) }
         ensures room { result.room ≡ room }
@@ -180,10 +181,10 @@ where
         ensures observed { I.IsStepwise → ObservedByTable result }
 
         // This holds after every list of steps.
-        ensures one_order { HasOneOrder result }
-        ensures follow { FollowPrograms result }
-        ensures stay { StayHome result }
-        ensures once { StandsOnce result }
+        ensures linearization { HasLinearization result }
+        ensures follow { MatchesPrograms result }
+        ensures stay { KeepsAffinity result }
+        ensures once { HasUniquePlace result }
         ensures agree { MovesAgree result }
     {
         let system = System {

@@ -73,8 +73,8 @@ impl<I: Owned + Drop> System<I>
 where
     I::Machine: Drop,
 {
-    ghost use Rattle.cpu.specs.{Claims.{FollowPrograms, HasOneOrder, MovesAgree, StandsOnce, StayHome}, Sound.{BootsByTable, IsSetupFor, SoundByTable}};
-    ghost use Rattle.cpu.specs.{Sound.setup_for, Observed.ObservedByTable};
+    ghost use Rattle.cpu.specs.{Claims.{MatchesPrograms, HasLinearization, MovesAgree, HasUniquePlace, KeepsAffinity}, Sound.{BootsByTable, IsSetupFor}};
+    ghost use Rattle.cpu.specs.{Sound.{SoundByTable, setup_for}, Observed.ObservedByTable};
 
     /// Returns the system of a plan before its first step, with room for `room` steps. Each CPU's
     /// threads are ready by rising number, and every buffer is empty. All memory is allocated here.
@@ -98,10 +98,10 @@ where
         ensures observed { IfOk result (λ s. I.IsStepwise → ObservedByTable s) }
 
         // This holds after every list of steps.
-        ensures one_order { IfOk result HasOneOrder }
-        ensures follow { IfOk result FollowPrograms }
-        ensures stay { IfOk result StayHome }
-        ensures once { IfOk result StandsOnce }
+        ensures linearization { IfOk result HasLinearization }
+        ensures follow { IfOk result MatchesPrograms }
+        ensures stay { IfOk result KeepsAffinity }
+        ensures once { IfOk result HasUniquePlace }
         ensures agree { IfOk result MovesAgree }
     {
         let homes = homes_of(boot);

@@ -10,8 +10,9 @@ impl<I: Owned + Drop> System<I>
 where
     I::Machine: Drop,
 {
-    ghost use Rattle.{event_log.specs.declared.ids.CpuId.CpuId, layer_traits.specs.Threads.Places.{IsPending, where_is}, cpu.specs.Calm.AllQueuesEmpty};
-    ghost use Rattle.cpu.specs.{Calm.{IsQuiet, calm_in}, Sound.IsSetupFor, Systems.whole_of, Table.Setups.Setup, Observed.IsStill, Wakeups.Quiet.IsQuietTable};
+    ghost use Rattle.{event_log.specs.declared.ids.CpuId.CpuId, layer_traits.specs.Threads.Places.{IsPending, where_is}, cpu.specs.Quiescent.AllQueuesEmpty};
+    ghost use Rattle.cpu.specs.{Quiescent.{IsQuiet, quiescent_in}, Sound.IsSetupFor, Systems.whole_of, Table.Setups.SystemConfig, Observed.NoThreadCanProceed};
+    ghost use Rattle.cpu.specs.Wakeups.Quiet.{IsQuietTable};
 
     /// Returns whether the system is quiet (quiescent):
     ///
@@ -22,11 +23,11 @@ where
     pub fn is_quiet(&self) -> bool
         ensures is { result ≡ true ↔ IsQuiet self.now }
         // The system is quiet exactly if the step table's state is.
-        ensures table { I.IsStepwise → (setup : Setup) → IsSetupFor setup self.now
+        ensures table { I.IsStepwise → (setup : SystemConfig) → IsSetupFor setup self.now
             → (result ≡ true ↔ IsQuietTable setup (whole_of self.now)) }
         // Then no live thread has a next call that its buffer allows, no thread owns a lock, and
         // none sleeps at one.
-        ensures still { I.IsStepwise → result ≡ true → IsStill self.now }
+        ensures still { I.IsStepwise → result ≡ true → NoThreadCanProceed self.now }
     {
         self.holds();
         self.rests()
@@ -36,19 +37,19 @@ where
     fn rests(&self) -> bool
         ensures { result ≡ true ↔ IsQuiet self.now }
     {
-        if !self.are_calm() {
+        if !self.are_quiescent() {
             return false;
         }
         self.nobody_pends()
     }
 
     /// Returns whether each CPU is calm.
-    fn are_calm(&self) -> bool
+    fn are_quiescent(&self) -> bool
         ensures { result ≡ true
-            ↔ ((c : CpuId) → c.0 < length self.now.cpus → calm_in c self.now ≡ true) }
+            ↔ ((c : CpuId) → c.0 < length self.now.cpus → quiescent_in c self.now ≡ true) }
     {
         for number in 0..self.cpus.len() {
-            if !self.is_calm(CpuId(number as u8)) {
+            if !self.is_quiescent(CpuId(number as u8)) {
                 return false;
             }
         }

@@ -21,19 +21,19 @@ fn add_one<L: LockLayer<AddOne>, R: Wait>(
     lock: LockId,
     payload: &mut Payload,
 )
-    requires fits { L.Fits part.old machine.old }
+    requires coupled { L.Coupled part.old machine.old }
     requires rests { L.under_way part.old ≡ None }
     requires lock { IsSome (L.opening machine.old lock) }
     requires room { (m : _) → 0 < L.room m }
-    ensures fits { L.Fits part.new machine.new }
+    ensures coupled { L.Coupled part.new machine.new }
     ensures rests { L.under_way part.new ≡ None }
     ensures cpu { L.cpu_of part.new ≡ L.cpu_of part.old }
     ensures opening { L.opening machine.new ≡ L.opening machine.old }
-    ensures site { L.site machine.new ≡ L.site machine.old }
+    ensures machine_id { L.machine_id machine.new ≡ L.machine_id machine.old }
     ensures acts { (c : CpuId) → L.ActsFor machine.old c → L.ActsFor machine.new c }
     ensures outside { L.IsOutside machine.new (L.cpu_of part.old) }
-    ensures made { made (L.cpu_of part.old) lock (L.seen machine.new)
-        ≡ made (L.cpu_of part.old) lock (L.seen machine.old) + 1 }
+    ensures made { made (L.cpu_of part.old) lock (L.history machine.new)
+        ≡ made (L.cpu_of part.old) lock (L.history machine.old) + 1 }
 {
     let mut spins = SPINS;
     for _ in rt.forever() {
@@ -64,8 +64,9 @@ fn work_at<L: LockLayer<AddOne> + Drop, R: Wait>(
     requires room { (m : _) → 0 < L.room m }
     ensures acts { L.ActsFor seat.new cpu }
     ensures outside { L.IsOutside seat.new cpu }
-    ensures site { L.site seat.new ≡ L.site seat.old }
-    ensures made { made cpu NUMBER (L.seen seat.new) ≡ made cpu NUMBER (L.seen seat.old) + times }
+    ensures machine_id { L.machine_id seat.new ≡ L.machine_id seat.old }
+    ensures made { made cpu NUMBER (L.history seat.new)
+        ≡ made cpu NUMBER (L.history seat.old) + times }
 {
     let mut part = L::part(cpu, &[], 1);
     let mut payload = Payload::new();
@@ -87,7 +88,7 @@ pub(crate) fn work<K: TableWords, R: Wait>(
 ) -> Key<AddOne>
     requires of { IsOf shared.now key }
     requires lock { IsSome (opened key.start NUMBER) }
-    requires outside { lock_phase key.cpu key.seen ≡ Idle }
+    requires outside { lock_phase key.cpu key.history ≡ Idle }
     ensures { HasMade NUMBER key result times }
 {
     let cpu = key.cpu();

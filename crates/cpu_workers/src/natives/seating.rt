@@ -44,14 +44,14 @@ where
     requires unused { (k : ℕ) (m : I.Machine) → slice_get machines.items k ≡ Some m
         → IsUnused (I.IsFresh m homes.now (cpu_at k)) (homes_in (I.opening m) ≡ homes.now)
         (caps_in (I.opening m) ≡ caps.now)
-        (I.seen m ≡ []) (I.acts m ≡ [])
+        (I.history m ≡ []) (I.acts m ≡ [])
         (inner (I.opening m) ≡ opening_locks (caps_in (I.opening m))) }
     ensures count { IfOk result (λ tasks. length tasks.items ≡ length machines.items) }
     ensures each { IfOk result (λ tasks. (k : ℕ) (t : _) → slice_get tasks.items k ≡ Some t
         → IsNewCaller caps.now (cpu_at k) t.caller.value
         × (slice_get natives.items k ≡ Some t.native)
         × ((m : I.Machine) → slice_get machines.items k ≡ Some m
-        → t.caller.value.site ≡ I.site m)) }
+        → t.caller.value.machine_id ≡ I.machine_id m)) }
 {
     let mut machines = machines;
     let mut natives = natives;
@@ -81,7 +81,7 @@ where
     I::Machine: Drop + Hints,
     requires stepwise { I.IsStepwise }
     ensures machine { HasLeftMachine task.caller.value (I.acts result.machine)
-        (I.site result.machine) }
+        (I.machine_id result.machine) }
     ensures owns { I.ActsFor result.machine task.caller.value.cpu }
     ensures native { result.native ≡ task.native }
 {
@@ -102,7 +102,7 @@ where
     requires stepwise { I.IsStepwise }
     requires empty { left.items ≡ [] }
     requires room { length done.items ≤ vec_capacity left }
-    ensures { Both (λ d x. HasLeftMachine d.caller.value (I.acts x.machine) (I.site x.machine)
+    ensures { Both (λ d x. HasLeftMachine d.caller.value (I.acts x.machine) (I.machine_id x.machine)
         × I.ActsFor x.machine d.caller.value.cpu
         × (x.native ≡ d.native)) done.items result.items }
 {
@@ -138,13 +138,13 @@ where
     requires unused { (k : ℕ) (m : I.Machine) → slice_get machines.items k ≡ Some m
         → IsUnused (I.IsFresh m homes.now (cpu_at k)) (homes_in (I.opening m) ≡ homes.now)
         (caps_in (I.opening m) ≡ caps.now)
-        (I.seen m ≡ []) (I.acts m ≡ [])
+        (I.history m ≡ []) (I.acts m ≡ [])
         (inner (I.opening m) ≡ opening_locks (caps_in (I.opening m))) }
     ensures count { IfOk result (λ left. length left.items ≡ length machines.items) }
-    ensures site { IfOk result
+    ensures machine_id { IfOk result
         (λ left. (k : ℕ) (x : _) (m : I.Machine) → slice_get left.items k ≡ Some x
         → slice_get machines.items k ≡ Some m
-        → I.site x.machine ≡ I.site m) }
+        → I.machine_id x.machine ≡ I.machine_id m) }
     ensures owns { IfOk result
         (λ left. (k : ℕ) (x : _) → slice_get left.items k ≡ Some x
         → I.ActsFor x.machine (cpu_at k)) }
@@ -187,14 +187,14 @@ where
     requires threads { length homes.now ≤ THREADS }
     requires needs { All (λ n. N.Needs n caps.now) natives.items }
     requires ready { (k : ℕ) (m : L.Machine) → slice_get machines.items k ≡ Some m
-        → IsReadySeat (L.ActsFor m (cpu_at k)) (L.IsOutside m (cpu_at k)) (L.seen m ≡ [])
+        → IsReadySeat (L.ActsFor m (cpu_at k)) (L.IsOutside m (cpu_at k)) (L.history m ≡ [])
         (L.acts m ≡ [])
         (OpensWith (length machines.items) caps.now homes.now (L.opening m)) }
     ensures count { IfOk result (λ left. length left.items ≡ length machines.items) }
-    ensures site { IfOk result
+    ensures machine_id { IfOk result
         (λ left. (k : ℕ) (x : _) (m : L.Machine) → slice_get left.items k ≡ Some x
         → slice_get machines.items k ≡ Some m
-        → L.site x.machine ≡ L.site m) }
+        → L.machine_id x.machine ≡ L.machine_id m) }
     ensures owns { IfOk result
         (λ left. (k : ℕ) (x : _) → slice_get left.items k ≡ Some x
         → L.ActsFor x.machine (cpu_at k)) }

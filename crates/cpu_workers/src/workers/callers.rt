@@ -7,8 +7,8 @@ ghost use Rattle.cpu_workers.specs.Callers.{HasCalled, HasMadeCall};
 ghost use Rattle.event_log.specs.declared.entries.Kind.TheVariants as kind;
 
 use crate::workers::calling;
+use crate::workers::handoff_backoff::HandoffBackoff;
 use crate::workers::hints::Hints;
-use crate::workers::manners::Manners;
 use event_log::{BufId, CpuId, Msg, Tid};
 use layer_traits::{Call, CallLayer, IpcLaw, Reply};
 use std::marker::Model;
@@ -39,7 +39,7 @@ where
     cpu: CpuId,
     thread: Tid,
     made: u64,
-    manners: Manners,
+    handoff_backoff: HandoffBackoff,
 }
 
 impl<I: CallLayer<IpcLaw> + Drop> Model for Caller<I>
@@ -57,13 +57,13 @@ where
       cpu = c.cpu;
       thread = c.thread;
       caps = caps_in (I.opening c.machine);
-      site = I.site c.machine;
-      calls = reverse (of_cpu c.cpu (I.seen c.machine));
+      machine_id = I.machine_id c.machine;
+      calls = reverse (of_cpu c.cpu (I.history c.machine));
     } };
 
-    ghost invariant = { λ c. IsCaller (I.Fits c.part c.machine × (I.cpu_of c.part ≡ c.cpu)) ((m : I.Machine) → 0 < I.room m) (I.under_way c.part ≡ None)
-        ((call_state_of (I.own c.part).call_states c.thread).stage ≡ Idle) (inner (I.opening c.machine) ≡ opening_locks (caps_in (I.opening c.machine)))
-        c.cpu (I.seen c.machine) c.made };
+    ghost invariant = { λ c. IsCaller (I.Coupled c.part c.machine × (I.cpu_of c.part ≡ c.cpu)) ((m : I.Machine) → 0 < I.room m) (I.under_way c.part ≡ None)
+        ((call_state_of (I.local c.part).call_states c.thread).stage ≡ Idle) (inner (I.opening c.machine) ≡ opening_locks (caps_in (I.opening c.machine)))
+        c.cpu (I.history c.machine) c.made };
 }
 
 impl<I: CallLayer<IpcLaw> + Drop> Caller<I>
@@ -88,13 +88,13 @@ where
         requires threads { length homes.now ≤ THREADS }
         requires fresh { I.IsFresh machine homes.now cpu }
         requires buffers { length (caps_in (I.opening machine)) ≡ buffers }
-        requires seen { I.seen machine ≡ [] }
+        requires history { I.history machine ≡ [] }
         requires room { (m : I.Machine) → 0 < I.room m }
         requires opens { inner (I.opening machine) ≡ opening_locks (caps_in (I.opening machine)) }
         ensures cpu { result.cpu ≡ cpu }
         ensures thread { result.thread ≡ thread }
         ensures caps { result.caps ≡ caps_in (I.opening machine) }
-        ensures site { result.site ≡ I.site machine }
+        ensures machine_id { result.machine_id ≡ I.machine_id machine }
         ensures calls { result.calls ≡ [] }
     {
         Caller {
@@ -103,7 +103,7 @@ where
             cpu,
             thread,
             made: 0,
-            manners: Manners::new(),
+            handoff_backoff: HandoffBackoff::new(),
         }
     }
 
@@ -119,7 +119,7 @@ where
                 &mut self.machine,
                 self.thread,
                 call,
-                &mut self.manners,
+                &mut self.handoff_backoff,
             );
             self.made += 1;
             return reply;
@@ -181,7 +181,7 @@ where
     /// section of the CPU is then under way.
     pub fn into_machine(self) -> I::Machine
         ensures owns { I.ActsFor result self.cpu }
-        ensures site { I.site result ≡ self.site }
+        ensures machine_id { I.machine_id result ≡ self.machine_id }
         ensures few { length self.calls ≤ MOST_CALLS }
         ensures trace { I.IsStepwise → IsTraceOf self.cpu self.caps (I.acts result) self.calls }
         ensures rests { I.IsStepwise → is_in_section (phase self.cpu (I.acts result)) ≡ false }

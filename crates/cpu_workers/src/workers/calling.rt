@@ -8,9 +8,9 @@ ghost use Rattle.{layer_traits.specs.Threads.Passes.MayPass, cpu_workers.specs.{
 ghost use Rattle.cpu_workers.specs.Calls.{MayBegin, MayPollBegun, Returned, begun_under_way};
 
 use crate::pauses::SPINS;
+use crate::workers::handoff_backoff::HandoffBackoff;
 use crate::workers::hints::Hints;
 use crate::workers::idlers::Idler;
-use crate::workers::manners::Manners;
 use event_log::{CpuId, Tid};
 use layer_traits::{Call, CallLayer, IpcLaw, Pass, Reply};
 use std::sync::Wait;
@@ -27,10 +27,10 @@ pub(crate) enum Begun {
 // Chooses what a CPU with nothing under way polls next for the call of `t`. A thread in its hand is
 // forwarded first.
 fn choose<I: CallLayer<IpcLaw>>(part: &I, t: Tid) -> Begun
-    ensures may { MayBegin t (threads_in (I.own part.now)) result }
-    ensures hand { result ≡ Calls → (threads_in (I.own part.now)).hand ≡ None }
-    ensures calls { (threads_in (I.own part.now)).hand ≡ None
-        → (threads_in (I.own part.now)).current ≡ Some t → result ≡ Calls }
+    ensures may { MayBegin t (threads_in (I.local part.now)) result }
+    ensures hand { result ≡ Calls → (threads_in (I.local part.now)).hand ≡ None }
+    ensures calls { (threads_in (I.local part.now)).hand ≡ None
+        → (threads_in (I.local part.now)).current ≡ Some t → result ≡ Calls }
 {
     if let Some(woken) = part.hand() {
         return Begun::Passes(Pass::MakeReady(woken));
@@ -51,20 +51,20 @@ fn poll_pass<I: CallLayer<IpcLaw>>(
     pass: Pass,
     call: &Call,
 ) -> Option<Begun>
-    requires fits { I.Fits part.old m.old }
+    requires coupled { I.Coupled part.old m.old }
     requires room { 0 < I.room m.old }
-    requires may { MayPass pass (threads_in (I.own part.old)) }
+    requires may { MayPass pass (threads_in (I.local part.old)) }
     requires keeps { pass ≢ End }
     requires goes_on { MayGoOn (I.under_way part.old) (Passing pass) }
-    ensures fits { I.Fits part.new m.new }
+    ensures coupled { I.Coupled part.new m.new }
     ensures cpu { I.cpu_of part.new ≡ I.cpu_of part.old }
     ensures opening { I.opening m.new ≡ I.opening m.old }
-    ensures site { I.site m.new ≡ I.site m.old }
+    ensures machine_id { I.machine_id m.new ≡ I.machine_id m.old }
     ensures under_way { I.under_way part.new ≡ begun_under_way t result }
-    ensures may { MayPollBegun t (threads_in (I.own part.new)) result }
-    ensures ended { (threads_in (I.own part.new)).ended ≡ (threads_in (I.own part.old)).ended }
-    ensures on { KeepsOn (I.cpu_of part.old) t call.now (I.own part.old).call_states
-        (I.own part.new).call_states (I.seen m.old) (I.seen m.new) }
+    ensures may { MayPollBegun t (threads_in (I.local part.new)) result }
+    ensures ended { (threads_in (I.local part.new)).ended ≡ (threads_in (I.local part.old)).ended }
+    ensures on { KeepsOn (I.cpu_of part.old) t call.now (I.local part.old).call_states
+        (I.local part.new).call_states (I.history m.old) (I.history m.new) }
 {
     let _ = t;
     let _ = call;
@@ -81,29 +81,30 @@ fn poll_call<I: CallLayer<IpcLaw>>(
     t: Tid,
     call: &Call,
 ) -> Result<Reply, Option<Begun>>
-    requires fits { I.Fits part.old m.old }
+    requires coupled { I.Coupled part.old m.old }
     requires room { 0 < I.room m.old }
     requires buffer { (buffer_of call.now).0 < length (caps_in (I.opening m.old)) }
-    requires runs { (threads_in (I.own part.old)).current ≡ Some t }
-    requires hand { I.under_way part.old ≡ None → (threads_in (I.own part.old)).hand ≡ None }
+    requires runs { (threads_in (I.local part.old)).current ≡ Some t }
+    requires hand { I.under_way part.old ≡ None → (threads_in (I.local part.old)).hand ≡ None }
     requires goes_on { MayGoOn (I.under_way part.old) (Calling t) }
-    requires same { MayPollCall (call_state_of (I.own part.old).call_states t) call.now }
-    ensures fits { I.Fits part.new m.new }
+    requires same { MayPollCall (call_state_of (I.local part.old).call_states t) call.now }
+    ensures coupled { I.Coupled part.new m.new }
     ensures cpu { I.cpu_of part.new ≡ I.cpu_of part.old }
     ensures opening { I.opening m.new ≡ I.opening m.old }
-    ensures site { I.site m.new ≡ I.site m.old }
-    ensures ended { (threads_in (I.own part.new)).ended ≡ (threads_in (I.own part.old)).ended }
-    ensures runs { IfOk result (λ reply. (threads_in (I.own part.new)).current ≡ Some t) }
+    ensures machine_id { I.machine_id m.new ≡ I.machine_id m.old }
+    ensures ended { (threads_in (I.local part.new)).ended ≡ (threads_in (I.local part.old)).ended }
+    ensures runs { IfOk result (λ reply. (threads_in (I.local part.new)).current ≡ Some t) }
     ensures goes { IfErr result
         (λ begun. (I.under_way part.new ≡ begun_under_way t begun)
-        × MayPollBegun t (threads_in (I.own part.new)) begun
-        × KeepsOn (I.cpu_of part.old) t call.now (I.own part.old).call_states
-        (I.own part.new).call_states (I.seen m.old) (I.seen m.new)) }
+        × MayPollBegun t (threads_in (I.local part.new)) begun
+        × KeepsOn (I.cpu_of part.old) t call.now (I.local part.old).call_states
+        (I.local part.new).call_states (I.history m.old) (I.history m.new)) }
     ensures ends { IfOk result
         (λ reply. (I.under_way part.new ≡ None)
-        × ((call_state_of (I.own part.new).call_states t).stage ≡ Idle)
-        × EndsCall (I.cpu_of part.old) t call.now reply (I.own part.old).call_states (I.seen m.old)
-        (I.seen m.new)) }
+        × ((call_state_of (I.local part.new).call_states t).stage ≡ Idle)
+        × EndsCall (I.cpu_of part.old) t call.now reply (I.local part.old).call_states
+        (I.history m.old)
+        (I.history m.new)) }
 {
     match part.poll(m, t, call) {
         Some(reply) => Ok(reply),
@@ -121,28 +122,29 @@ fn poll_once<I: CallLayer<IpcLaw>>(
     call: &Call,
     begun: Option<Begun>,
 ) -> Result<Reply, Option<Begun>>
-    requires fits { I.Fits part.old m.old }
+    requires coupled { I.Coupled part.old m.old }
     requires room { 0 < I.room m.old }
     requires buffer { (buffer_of call.now).0 < length (caps_in (I.opening m.old)) }
     requires under_way { I.under_way part.old ≡ begun_under_way t begun }
-    requires may { MayPollBegun t (threads_in (I.own part.old)) begun }
-    requires same { MayPollCall (call_state_of (I.own part.old).call_states t) call.now }
-    ensures fits { I.Fits part.new m.new }
+    requires may { MayPollBegun t (threads_in (I.local part.old)) begun }
+    requires same { MayPollCall (call_state_of (I.local part.old).call_states t) call.now }
+    ensures coupled { I.Coupled part.new m.new }
     ensures cpu { I.cpu_of part.new ≡ I.cpu_of part.old }
     ensures opening { I.opening m.new ≡ I.opening m.old }
-    ensures site { I.site m.new ≡ I.site m.old }
-    ensures ended { (threads_in (I.own part.new)).ended ≡ (threads_in (I.own part.old)).ended }
-    ensures runs { IfOk result (λ reply. (threads_in (I.own part.new)).current ≡ Some t) }
+    ensures machine_id { I.machine_id m.new ≡ I.machine_id m.old }
+    ensures ended { (threads_in (I.local part.new)).ended ≡ (threads_in (I.local part.old)).ended }
+    ensures runs { IfOk result (λ reply. (threads_in (I.local part.new)).current ≡ Some t) }
     ensures goes { IfErr result
         (λ begun. (I.under_way part.new ≡ begun_under_way t begun)
-        × MayPollBegun t (threads_in (I.own part.new)) begun
-        × KeepsOn (I.cpu_of part.old) t call.now (I.own part.old).call_states
-        (I.own part.new).call_states (I.seen m.old) (I.seen m.new)) }
+        × MayPollBegun t (threads_in (I.local part.new)) begun
+        × KeepsOn (I.cpu_of part.old) t call.now (I.local part.old).call_states
+        (I.local part.new).call_states (I.history m.old) (I.history m.new)) }
     ensures ends { IfOk result
         (λ reply. (I.under_way part.new ≡ None)
-        × ((call_state_of (I.own part.new).call_states t).stage ≡ Idle)
-        × EndsCall (I.cpu_of part.old) t call.now reply (I.own part.old).call_states (I.seen m.old)
-        (I.seen m.new)) }
+        × ((call_state_of (I.local part.new).call_states t).stage ≡ Idle)
+        × EndsCall (I.cpu_of part.old) t call.now reply (I.local part.old).call_states
+        (I.history m.old)
+        (I.history m.new)) }
 {
     if part.look(m) {
         return Err(begun);
@@ -172,27 +174,27 @@ pub fn call<I: CallLayer<IpcLaw>, R: Wait>(
     m: &mut I::Machine,
     t: Tid,
     call: &Call,
-    manners: &mut Manners,
+    handoff_backoff: &mut HandoffBackoff,
 ) -> Reply
 where
     I::Machine: Hints,
-    requires fits { I.Fits part.old m.old }
+    requires coupled { I.Coupled part.old m.old }
     requires room { (w : I.Machine) → 0 < I.room w }
     requires buffer { (buffer_of call.now).0 < length (caps_in (I.opening m.old)) }
     requires under_way { I.under_way part.old ≡ None }
-    requires idle { (call_state_of (I.own part.old).call_states t).stage ≡ Idle }
-    ensures fits { I.Fits part.new m.new }
+    requires idle { (call_state_of (I.local part.old).call_states t).stage ≡ Idle }
+    ensures coupled { I.Coupled part.new m.new }
     ensures under_way { I.under_way part.new ≡ None }
-    ensures idle { (call_state_of (I.own part.new).call_states t).stage ≡ Idle }
+    ensures idle { (call_state_of (I.local part.new).call_states t).stage ≡ Idle }
     ensures cpu { I.cpu_of part.new ≡ I.cpu_of part.old }
     ensures opening { I.opening m.new ≡ I.opening m.old }
-    ensures site { I.site m.new ≡ I.site m.old }
-    ensures ended { (threads_in (I.own part.new)).ended ≡ (threads_in (I.own part.old)).ended }
-    ensures runs { (threads_in (I.own part.new)).current ≡ Some t }
-    ensures returned { Returned (I.cpu_of part.old) t call.now result (I.seen m.old)
-        (I.seen m.new) }
+    ensures machine_id { I.machine_id m.new ≡ I.machine_id m.old }
+    ensures ended { (threads_in (I.local part.new)).ended ≡ (threads_in (I.local part.old)).ended }
+    ensures runs { (threads_in (I.local part.new)).current ≡ Some t }
+    ensures returned { Returned (I.cpu_of part.old) t call.now result (I.history m.old)
+        (I.history m.new) }
 {
-    manners.begin(m, call.buffer());
+    handoff_backoff.begin(m, call.buffer());
     let mut begun: Option<Begun> = None;
     let mut spins = SPINS;
     let mut idler = Idler::new(CpuId(t.0));
@@ -202,7 +204,7 @@ where
             Ok(reply) => return reply,
             Err(goes_on) => begun = goes_on,
         }
-        spins = manners.after(part, m, spins);
+        spins = handoff_backoff.after(part, m, spins);
         idler.after_poll(rt, part, m);
     }
     unreachable!()

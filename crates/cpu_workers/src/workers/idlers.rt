@@ -3,8 +3,8 @@
 
 ghost use Rattle.std.specs.Prelude.{◌≡◌};
 
+use crate::workers::handoff_backoff::is_idle;
 use crate::workers::hints::Hints;
-use crate::workers::manners::is_idle;
 use crate::workers::worker::Worker;
 use event_log::CpuId;
 use layer_traits::{CallLayer, IpcLaw};

@@ -46,10 +46,10 @@ where
     requires unused { IsUnused (I.IsFresh machine (homes_for boot.now) number)
         (homes_in (I.opening machine) ≡ homes_for boot.now)
         (caps_in (I.opening machine) ≡ boot.now.caps)
-        (I.seen machine ≡ []) (I.acts machine ≡ [])
+        (I.history machine ≡ []) (I.acts machine ≡ [])
         (inner (I.opening machine) ≡ opening_locks (caps_in (I.opening machine))) }
     ensures at_boot { IfOk result (IsAtBoot boot.now number) }
-    ensures site { IfOk result (λ w. w.site ≡ I.site machine) }
+    ensures machine_id { IfOk result (λ w. w.machine_id ≡ I.machine_id machine) }
 {
     let homes = homes_of(boot);
     let buffers = boot.caps().len() as u8;
@@ -80,12 +80,12 @@ where
     requires unused { (k : ℕ) (m : I.Machine) → slice_get machines.items k ≡ Some m
         → IsUnused (I.IsFresh m (homes_for boot.now) (cpu_at k))
         (homes_in (I.opening m) ≡ homes_for boot.now) (caps_in (I.opening m) ≡ boot.now.caps)
-        (I.seen m ≡ []) (I.acts m ≡ [])
+        (I.history m ≡ []) (I.acts m ≡ [])
         (inner (I.opening m) ≡ opening_locks (caps_in (I.opening m))) }
     ensures count { IfOk result (λ workers. length workers.items ≡ length machines.items) }
     ensures each { IfOk result (λ workers. (k : ℕ) (w : _) → slice_get workers.items k ≡ Some w
         → IsAtBoot boot.now (cpu_at k) w
-        × ((m : I.Machine) → slice_get machines.items k ≡ Some m → w.site ≡ I.site m)) }
+        × ((m : I.Machine) → slice_get machines.items k ≡ Some m → w.machine_id ≡ I.machine_id m)) }
 {
     let mut machines = machines;
     let count = machines.len();
@@ -107,7 +107,7 @@ where
 fn apart<I: CallLayer<IpcLaw> + Drop>(came: Came<I>) -> Left<I::Machine>
 where
     I::Machine: Drop,
-    ensures apart { IsApart came.worker (I.acts result.machine) (I.site result.machine)
+    ensures apart { IsApart came.worker (I.acts result.machine) (I.machine_id result.machine)
         result.trace.items }
     ensures owns { I.ActsFor result.machine came.worker.cpu }
     ensures did { result.did ≡ came.did }
@@ -131,7 +131,8 @@ where
     I::Machine: Drop,
     requires empty { left.items ≡ [] }
     requires room { length came.items ≤ vec_capacity left }
-    ensures { Both (λ c x. IsApart c.worker (I.acts x.machine) (I.site x.machine) x.trace.items
+    ensures { Both (λ c x. IsApart c.worker (I.acts x.machine) (I.machine_id x.machine)
+        x.trace.items
         × I.ActsFor x.machine c.worker.cpu
         × (x.did ≡ c.did)) came.items result.items }
 {
@@ -164,19 +165,19 @@ where
     requires unused { (k : ℕ) (m : I.Machine) → slice_get machines.items k ≡ Some m
         → IsUnused (I.IsFresh m (homes_for boot.now) (cpu_at k))
         (homes_in (I.opening m) ≡ homes_for boot.now) (caps_in (I.opening m) ≡ boot.now.caps)
-        (I.seen m ≡ []) (I.acts m ≡ [])
+        (I.history m ≡ []) (I.acts m ≡ [])
         (inner (I.opening m) ≡ opening_locks (caps_in (I.opening m))) }
     ensures count { IfOk result (λ left. length left.items ≡ length machines.items) }
-    ensures site { IfOk result
+    ensures machine_id { IfOk result
         (λ left. (k : ℕ) (x : _) (m : I.Machine) → slice_get left.items k ≡ Some x
         → slice_get machines.items k ≡ Some m
-        → I.site x.machine ≡ I.site m) }
+        → I.machine_id x.machine ≡ I.machine_id m) }
     ensures owns { IfOk result
         (λ left. (k : ℕ) (x : _) → slice_get left.items k ≡ Some x
         → I.ActsFor x.machine (cpu_at k)) }
     ensures left { IfOk result (λ left. (k : ℕ) (x : _) → slice_get left.items k ≡ Some x
         → HasLeft boot.now (G.MayAnswer gate.now) turns (cpu_at k) (I.acts x.machine)
-        (I.site x.machine) x.trace.items x.did.taken x.did.stop) }
+        (I.machine_id x.machine) x.trace.items x.did.taken x.did.stop) }
 {
     let left = Vec::with_capacity(alloc, machines.len())?;
     let workers = workers_over::<I>(alloc, boot, machines)?;
@@ -210,19 +211,19 @@ where
     requires count { length machines.items ≤ boot.now.cpus }
     requires few { length machines.items ≤ CPUS }
     requires ready { (k : ℕ) (m : L.Machine) → slice_get machines.items k ≡ Some m
-        → IsReadySeat (L.ActsFor m (cpu_at k)) (L.IsOutside m (cpu_at k)) (L.seen m ≡ [])
+        → IsReadySeat (L.ActsFor m (cpu_at k)) (L.IsOutside m (cpu_at k)) (L.history m ≡ [])
         (L.acts m ≡ []) (OpensPlan boot.now (L.opening m)) }
     ensures count { IfOk result (λ left. length left.items ≡ length machines.items) }
-    ensures site { IfOk result
+    ensures machine_id { IfOk result
         (λ left. (k : ℕ) (x : _) (m : L.Machine) → slice_get left.items k ≡ Some x
         → slice_get machines.items k ≡ Some m
-        → L.site x.machine ≡ L.site m) }
+        → L.machine_id x.machine ≡ L.machine_id m) }
     ensures owns { IfOk result
         (λ left. (k : ℕ) (x : _) → slice_get left.items k ≡ Some x
         → L.ActsFor x.machine (cpu_at k)) }
     ensures left { IfOk result (λ left. (k : ℕ) (x : _) → slice_get left.items k ≡ Some x
         → HasLeft boot.now (G.MayAnswer gate.now) turns (cpu_at k) (tower_acts (L.acts x.machine))
-        (L.site x.machine) x.trace.items x.did.taken x.did.stop) }
+        (L.machine_id x.machine) x.trace.items x.did.taken x.did.stop) }
 {
     let _laws: TowerLaws = PhantomData;
     run_each::<Ipc<TowerOver<L>>, G, R>(rt, alloc, boot, turns, gate, machines)

@@ -6,7 +6,7 @@ ghost use Rattle.table_machine.specs.SeatViews.{IsOf};
 use crate::bells::Bells;
 use crate::workers::hints::Hints;
 use event_log::{BufId, CpuId, LockId};
-use ipc_calls::{TowerBlock, TowerEdit, TowerHanded};
+use ipc_calls::{TowerBlock, TowerEdit, TowerRequest};
 use layer_traits::{Mark, Words};
 use std::marker::Model;
 use std::sync::Wait;
@@ -83,15 +83,15 @@ impl<'a, K: TableWords> Words for TowerSeat<'a, K> {
 
     ghost opening = { λ s. opened s.start };
 
-    ghost seen = { λ s. s.seen };
+    ghost history = { λ s. s.history };
 
-    ghost ActsFor = { λ s c. (c ≡ s.cpu) × IsLawful (MayCome (tower_rules.allowed (opened s.start))) s.seen };
+    ghost ActsFor = { λ s c. (c ≡ s.cpu) × IsLawful (MayCome (tower_rules.allowed (opened s.start))) s.history };
 
     ghost room = { λ s. STRETCH };
 
-    ghost site = { λ s. site_of s.table };
+    ghost machine_id = { λ s. site_of s.table };
 
-    fn mark(_handed: TowerHanded, edit: TowerEdit) -> Mark<TowerEdit>
+    fn mark(_handed: TowerRequest, edit: TowerEdit) -> Mark<TowerEdit>
         ensures { edit_of result ≡ edit }
     {
         Mark { edit }

@@ -1,15 +1,15 @@
 //! The turns of one worker. `work` takes no memory, and waits for other CPUs.
 
 ghost use Rattle.std.specs.Prelude.{◌≡◌, ◌≢◌, ℕ, ◌+◌, ◌<◌, ◌≤◌, ◌⊎◌, true, false, [], None, Some, MatchOption};
-ghost use Rattle.{layer_traits.specs.declared.steps.Reason.TheVariants.StepsUsed, cpu.specs.Table.{Setups.Setup, Steps.halted_at}};
+ghost use Rattle.{layer_traits.specs.declared.steps.Reason.TheVariants.StepsUsed, cpu.specs.Table.{Setups.SystemConfig, Steps.halted_at}};
 ghost use Rattle.cpu_workers.specs.{Working.{IsPlanned, MayStep, is_inside}, Reports.{HasRun, IsTrueStop}};
 ghost use Rattle.cpu_workers.specs.declared.workers.{gates.Go.TheVariants.{Limit, Pass}, stops.Stop.TheVariants.TurnsUsed};
 
 use crate::pauses::SPINS;
 use crate::workers::gates::{Gate, Go};
+use crate::workers::handoff_backoff::HandoffBackoff;
 use crate::workers::hints::Hints;
 use crate::workers::idlers::Idler;
-use crate::workers::manners::Manners;
 use crate::workers::stops::Stop;
 use crate::workers::worker::Worker;
 use event_log::CpuId;
@@ -115,12 +115,12 @@ where
         → (is_inside worker.now ≡ true) ⊎ ((held.new ≡ false) × (taken < turns)) }
     ensures passes { result ≡ None → held.new ≡ false
         → G.MayAnswer gate.now worker.now.cpu Pass taken }
-    ensures goes { result ≡ None → (setup : Setup) → IsPlanned setup worker.now.plan
+    ensures goes { result ≡ None → (setup : SystemConfig) → IsPlanned setup worker.now.plan
         → MayStep setup worker.now }
     ensures rests { (stop : _) → result ≡ Some stop → is_inside worker.now ≡ false }
-    ensures stops { (stop : _) → result ≡ Some stop → (setup : Setup)
+    ensures stops { (stop : _) → result ≡ Some stop → (setup : SystemConfig)
         → IsPlanned setup worker.now.plan
-        → IsTrueStop (halted_at setup worker.now.cpu worker.now.private) (λ turn. held.new ≡ true)
+        → IsTrueStop (halted_at setup worker.now.cpu worker.now.cpu_local) (λ turn. held.new ≡ true)
         turns taken stop }
     ensures used { result ≡ Some TurnsUsed → held.new ≡ false }
 {
@@ -165,9 +165,9 @@ where
     let mut taken = 0;
     let mut held = false;
     let mut spins = SPINS;
-    let mut manners = Manners::new();
-    let own = worker.number();
-    let mut idler = Idler::new(own);
+    let mut handoff_backoff = HandoffBackoff::new();
+    let local = worker.number();
+    let mut idler = Idler::new(local);
     for _ in rt.forever() {
         if let Some(stop) = before(gate, worker, taken, turns, &mut held) {
             worker.machine().leave();
@@ -175,10 +175,10 @@ where
         }
         idler.before(worker.part(), worker.machine());
         let open = at_once(gate, worker.number(), taken, turns, held);
-        let most = manners.at_most(open);
+        let most = handoff_backoff.at_most(open);
         let gone = worker.turns(most);
         taken = taken.saturating_add(gone as u64);
-        spins = manners.after_turn(worker, spins);
+        spins = handoff_backoff.after_turn(worker, spins);
         idler.after_turn(rt, worker, open);
     }
     unreachable!()

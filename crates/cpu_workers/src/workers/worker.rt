@@ -27,7 +27,7 @@ where
     I::Machine: Drop,
 {
     ghost use Rattle.std.specs.Prelude.{◌≡◌, ◌<◌, ◌≤◌, length, vec_capacity};
-    ghost use Rattle.{cpu.specs.{Cpus.{IsCpu, programs_of}, Tables.{IsTabled, private}}, cpu_workers.specs.{Working.Working, Seats.IsWorker}};
+    ghost use Rattle.{cpu.specs.{Cpus.{IsCpu, programs_of}, Tables.{IsTabled, cpu_local}}, cpu_workers.specs.{Working.Working, Seats.IsWorker}};
     ghost use Rattle.layer_traits.specs.{Blocks.{BufferEffects.opening_locks, Capacities.caps_in, QueueBlocks.{homes_in, inner}}, Views.OwnParts.threads_in};
 
     ghost Value = { Working };
@@ -40,15 +40,15 @@ where
         programs = programs_of w.cpu.guests.items;
         limit = w.cpu.limit;
       };
-      private = private (I.own w.cpu.part) w.cpu.guests.items w.cpu.trace.items;
+      cpu_local = cpu_local (I.local w.cpu.part) w.cpu.guests.items w.cpu.trace.items;
       acts = I.acts w.machine;
-      site = I.site w.machine;
+      machine_id = I.machine_id w.machine;
     } };
 
-    ghost invariant = { λ w. IsWorker I.IsStepwise (I.Fits w.cpu.part w.machine) (I.cpu_of w.cpu.part ≡ w.cpu.number)
-        (IsCpu (homes_in (I.opening w.machine)) (length (caps_in (I.opening w.machine))) (I.seen w.machine) (threads_in (I.own w.cpu.part))
-        (I.own w.cpu.part).call_states (I.under_way w.cpu.part) w.cpu.number w.cpu.guests.items w.cpu.trace.items w.cpu.limit (vec_capacity w.cpu.trace))
-        (IsTabled (homes_in (I.opening w.machine)) (caps_in (I.opening w.machine)) w.cpu.number (I.own w.cpu.part) (I.under_way w.cpu.part)
+    ghost invariant = { λ w. IsWorker I.IsStepwise (I.Coupled w.cpu.part w.machine) (I.cpu_of w.cpu.part ≡ w.cpu.number)
+        (IsCpu (homes_in (I.opening w.machine)) (length (caps_in (I.opening w.machine))) (I.history w.machine) (threads_in (I.local w.cpu.part))
+        (I.local w.cpu.part).call_states (I.under_way w.cpu.part) w.cpu.number w.cpu.guests.items w.cpu.trace.items w.cpu.limit (vec_capacity w.cpu.trace))
+        (IsTabled (homes_in (I.opening w.machine)) (caps_in (I.opening w.machine)) w.cpu.number (I.local w.cpu.part) (I.under_way w.cpu.part)
         w.cpu.guests.items (I.opening w.machine))
         ((0 < w.stretch) × ((m : I.Machine) → w.stretch ≤ I.room m))
         (inner (I.opening w.machine) ≡ opening_locks (caps_in (I.opening w.machine))) };
@@ -59,8 +59,8 @@ where
     I::Machine: Drop,
 {
     ghost use Rattle.layer_traits.specs.{declared.steps.Reason.TheVariants.StepsUsed, Blocks.{BufferEffects.opening_locks, QueueBlocks.inner}};
-    ghost use Rattle.{event_log.specs.{Actions.AreLegal, declared.ids.TheConstants.THREADS}, cpu.specs.{Cpus.{IsCpu, programs_of}, Tables.{IsTabled, private}}};
-    ghost use Rattle.cpu.specs.{Boots.AreGuests, Table.{Setups.{Setup, boot_of}, Steps.halted_at}};
+    ghost use Rattle.{event_log.specs.{Actions.AreLegal, declared.ids.TheConstants.THREADS}, cpu.specs.{Cpus.{IsCpu, programs_of}, Tables.IsTabled}};
+    ghost use Rattle.cpu.specs.{Tables.cpu_local, Boots.AreGuests, Table.{Setups.{SystemConfig, boot_of}, Steps.halted_at}};
     ghost use Rattle.cpu_workers.specs.{Working.{IsPlanned, IsSame, MayStep, TookTurns, Turned, is_inside}, Orders.{HasFollowed, IsTraceOf}};
 
     /// Makes the worker of a CPU and its machine, which agree. The machine does one action a step
@@ -70,14 +70,14 @@ where
     /// agree, and the CPU's state is as the step table says. Each buffer opened empty.
     pub fn new(cpu: Cpu<I>, machine: I::Machine) -> Worker<I>
         requires stepwise { I.IsStepwise }
-        requires fits { I.Fits cpu.part machine }
+        requires coupled { I.Coupled cpu.part machine }
         requires number { I.cpu_of cpu.part ≡ cpu.number }
         requires is { IsCpu (homes_in (I.opening machine)) (length (caps_in (I.opening machine)))
-            (I.seen machine) (threads_in (I.own cpu.part))
-            (I.own cpu.part).call_states (I.under_way cpu.part) cpu.number cpu.guests.items
+            (I.history machine) (threads_in (I.local cpu.part))
+            (I.local cpu.part).call_states (I.under_way cpu.part) cpu.number cpu.guests.items
             cpu.trace.items cpu.limit (vec_capacity cpu.trace) }
         requires tabled { IsTabled (homes_in (I.opening machine)) (caps_in (I.opening machine))
-            cpu.number (I.own cpu.part) (I.under_way cpu.part)
+            cpu.number (I.local cpu.part) (I.under_way cpu.part)
             cpu.guests.items (I.opening machine) }
         requires room { (m : I.Machine) → 0 < I.room m }
         requires opens { inner (I.opening machine) ≡ opening_locks (caps_in (I.opening machine)) }
@@ -89,10 +89,10 @@ where
               programs = programs_of cpu.guests.items;
               limit = cpu.limit;
             } }
-        ensures private { result.private
-            ≡ private (I.own cpu.part) cpu.guests.items cpu.trace.items }
+        ensures cpu_local { result.cpu_local
+            ≡ cpu_local (I.local cpu.part) cpu.guests.items cpu.trace.items }
         ensures acts { result.acts ≡ I.acts machine }
-        ensures site { result.site ≡ I.site machine }
+        ensures machine_id { result.machine_id ≡ I.machine_id machine }
     {
         Worker {
             cpu,
@@ -133,7 +133,7 @@ where
         requires fresh { I.IsFresh machine homes.now number }
         requires homes { homes_in (I.opening machine) ≡ homes.now }
         requires buffers { length (caps_in (I.opening machine)) ≡ buffers }
-        requires seen { I.seen machine ≡ [] }
+        requires history { I.history machine ≡ [] }
         requires guests { AreGuests homes.now buffers number guests.items }
         requires room { (m : I.Machine) → 0 < I.room m }
         requires opens { inner (I.opening machine) ≡ opening_locks (caps_in (I.opening machine)) }
@@ -146,9 +146,10 @@ where
               limit = limit;
             }) }
         ensures boots { IfOk result
-            (λ w. (setup : Setup) → setup.homes ≡ homes.now → w.private ≡ boot_of setup number) }
+            (λ w. (setup : SystemConfig) → setup.homes ≡ homes.now
+            → w.cpu_local ≡ boot_of setup number) }
         ensures acts { IfOk result (λ w. w.acts ≡ I.acts machine) }
-        ensures site { IfOk result (λ w. w.site ≡ I.site machine) }
+        ensures machine_id { IfOk result (λ w. w.machine_id ≡ I.machine_id machine) }
     {
         // A match and no `?`, which would move the CPU's many bytes three times more.
         match Cpu::at_boot(alloc, number, homes, buffers, guests, limit) {
@@ -159,9 +160,9 @@ where
 
     /// Returns the trace of the worker's CPU and its machine.
     pub fn into_parts(self) -> (Vec<Entry>, I::Machine)
-        ensures trace { result.0.items ≡ self.private.trace }
+        ensures trace { result.0.items ≡ self.cpu_local.trace }
         ensures acts { I.acts result.1 ≡ self.acts }
-        ensures site { I.site result.1 ≡ self.site }
+        ensures machine_id { I.machine_id result.1 ≡ self.machine_id }
         ensures owns { I.ActsFor result.1 self.cpu }
     {
         let Worker { cpu, machine, .. } = self;
@@ -174,7 +175,7 @@ where
     /// followed its program.
     pub fn keeps(&self)
         ensures trace { IsTraceOf self.now.cpu self.now.plan.caps self.now.acts
-            self.now.private.trace }
+            self.now.cpu_local.trace }
         ensures legal { AreLegal self.now.acts }
         ensures follows { HasFollowed self.now }
     {
@@ -225,9 +226,9 @@ where
     /// Returns why the CPU takes no step while no section of it is under way: `AllEnded` or
     /// `TraceFull`.
     pub fn halted(&self) -> Option<Reason>
-        ensures is { (setup : Setup) → IsPlanned setup self.now.plan
-            → halted_at setup self.now.cpu self.now.private ≡ result }
-        ensures own { result ≢ Some StepsUsed }
+        ensures is { (setup : SystemConfig) → IsPlanned setup self.now.plan
+            → halted_at setup self.now.cpu self.now.cpu_local ≡ result }
+        ensures local { result ≢ Some StepsUsed }
     {
         self.cpu.halted()
     }
@@ -237,7 +238,8 @@ where
     /// may run after it.
     pub(crate) fn turns(&mut self, most: usize) -> usize
         requires { 0 < most }
-        ensures some { (setup : Setup) → IsPlanned setup self.old.plan → MayStep setup self.old
+        ensures some { (setup : SystemConfig) → IsPlanned setup self.old.plan
+            → MayStep setup self.old
             → 0 < result }
         ensures few { result ≤ most }
         ensures took { TookTurns self.old result self.new }

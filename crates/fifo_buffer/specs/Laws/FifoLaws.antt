@@ -4,7 +4,7 @@ use Rattle.layer_traits.specs.Blocks.{Capacities.caps_in, BufferEffects.{MayTake
 use Rattle.layer_traits.specs.Blocks.{BufferEffects.fresh_lock, BufferProtocol.BufferLock}
 use Rattle.layer_traits.specs.Blocks.{BufferProtocol.buffer_monitor_rules, QueueBlocks.homes_in}
 use Rattle.layer_traits.specs.Blocks.QueueBlocks.{inner}
-use Rattle.layer_traits.specs.declared.buffer_edits.{BufferEdit.BufferEdit, BufferOut.BufferOut}
+use Rattle.layer_traits.specs.declared.buffer_edits.{BufferEdit.BufferEdit, BufferReply.BufferReply}
 use Rattle.layer_traits.specs.declared.queue_edits.QueueBlock.{QueueBlock}
 use Rattle.layer_traits.specs.declared.{scheds.SchedCall.SchedCall, call_states.CallState.CallState}
 use Rattle.layer_traits.specs.Layers.{Conditions.{CvCall, cv_rules}, CvLaw.Waiting}
@@ -42,13 +42,14 @@ fifo_wait_lists opening past boots agree =
 
 -- a CPU on which nothing is under way has no call under way in the layer below
 pub no_call_beneath : (opening : LockId → Option (QueueBlock BufferLock)) (c : CpuId)
-    (past : List BufferEvent) (own : Waiting BufferOut)
+    (past : List BufferEvent) (local : Waiting BufferReply)
     (call_states : List CallState) (under_way : Option (SchedCall (CvCall BufferEdit)))
     (calling : Option Tid)
-    → PartFits opening c past own call_states under_way calling
+    → PartFits opening c past local call_states under_way calling
     → under_way_at calling under_way ≡ None → under_way ≡ None
-no_call_beneath opening c past own call_states None calling fits nothing = refl
-no_call_beneath opening c past own call_states (Some (sched.Pass p)) None fits nothing = absurd cc
-no_call_beneath opening c past own call_states (Some (sched.OnBuffer b e)) None fits nothing =
-    absurd fits.calls.none
-no_call_beneath opening c past own call_states (Some s) (Some t) fits nothing = absurd cc
+no_call_beneath opening c past local call_states None calling coupled nothing = refl
+no_call_beneath opening c past local call_states (Some (sched.Pass p)) None coupled nothing =
+    absurd cc
+no_call_beneath opening c past local call_states (Some (sched.OnBuffer b e)) None coupled nothing =
+    absurd coupled.calls.none
+no_call_beneath opening c past local call_states (Some s) (Some t) coupled nothing = absurd cc

@@ -10,8 +10,9 @@ use Rattle.layer_traits.specs.Layers.{Sleeping.{sleep_edited, wait_list_at}, Sle
 use Rattle.layer_traits.specs.{Layers.SleepLaw.sleep_kernel, Threads.ListsAgree.ListsAgree}
 use Rattle.fifo_buffer.specs.Laws.WaitLists.{lists_agree}
 use Rattle.fifo_buffer.specs.declared.monitor_blocks.MonitorEdit.{MonitorEdit}
-use Rattle.fifo_buffer.specs.{declared.monitor_blocks.MonitorOut.MonitorOut, Monitors.monitor_rules}
-use Rattle.fifo_buffer.specs.MonitorHistories.{MonitorLocked, fresh_monitor, monitor_lists}
+use Rattle.fifo_buffer.specs.declared.monitor_blocks.MonitorReply.{MonitorReply}
+use Rattle.fifo_buffer.specs.{Monitors.monitor_rules, MonitorHistories.MonitorLocked}
+use Rattle.fifo_buffer.specs.MonitorHistories.{fresh_monitor, monitor_lists}
 use Rattle.fifo_buffer.specs.MonitorParts.{MonitorFits, OpensFresh, monitor_shown, monitor_under}
 use Rattle.event_log.specs.declared.ids.{LockId.{LockId, TheVariants.{Pending, Buffer}}, Tid.Tid}
 
@@ -31,12 +32,12 @@ monitor_wait_lists opening past fresh agree =
 
 -- a CPU on which nothing is under way has no call under way in the layer below
 pub nothing_beneath : (opening : LockId → Option (QueueBlock MonitorLocked))
-    (own : Sleeping MonitorOut) (call_states : List CallState)
+    (local : Sleeping MonitorReply) (call_states : List CallState)
     (under_way : Option (SchedCall MonitorEdit)) (calling : Option Tid)
-    → MonitorFits opening own call_states under_way calling
+    → MonitorFits opening local call_states under_way calling
     → monitor_under calling under_way ≡ None → under_way ≡ None
-nothing_beneath opening own call_states None calling fits nothing = refl
-nothing_beneath opening own call_states (Some (Pass p)) None fits nothing = absurd cc
-nothing_beneath opening own call_states (Some (OnBuffer b e)) None fits nothing =
-    absurd fits.calls.0
-nothing_beneath opening own call_states (Some s) (Some t) fits nothing = absurd cc
+nothing_beneath opening local call_states None calling coupled nothing = refl
+nothing_beneath opening local call_states (Some (Pass p)) None coupled nothing = absurd cc
+nothing_beneath opening local call_states (Some (OnBuffer b e)) None coupled nothing =
+    absurd coupled.calls.0
+nothing_beneath opening local call_states (Some s) (Some t) coupled nothing = absurd cc

@@ -20,8 +20,8 @@ use Rattle.fifo_buffer.specs.declared.monitor_blocks.MonitorAsk.{MonitorAsk, The
 use Rattle.fifo_buffer.specs.declared.monitor_blocks.MonitorAsk.TheVariants.{Receive, Close}
 use Rattle.fifo_buffer.specs.declared.monitor_blocks.MonitorAsk.TheVariants.{WakeFirst}
 use Rattle.fifo_buffer.specs.declared.monitor_blocks.MonitorEdit.{MonitorEdit}
-use Rattle.fifo_buffer.specs.declared.monitor_blocks.MonitorOut.{MonitorOut, TheVariants.Acted}
-use Rattle.fifo_buffer.specs.declared.monitor_blocks.MonitorOut.TheVariants.{Refused}
+use Rattle.fifo_buffer.specs.declared.monitor_blocks.MonitorReply.{MonitorReply, TheVariants.Acted}
+use Rattle.fifo_buffer.specs.declared.monitor_blocks.MonitorReply.TheVariants.{Refused}
 use Rattle.fifo_buffer.specs.Monitors.{MonitorState, buffer_alone, goes_now, is_at_head}
 use Rattle.fifo_buffer.specs.Monitors.{monitor_effect, monitor_rules, monitor_told_by, owed_next}
 use Rattle.fifo_buffer.specs.Monitors.{owing, receive_effect, received, send_effect, monitor_sent}
@@ -53,9 +53,9 @@ module _ (caps : List ℕ) (es : List Entry) (c : CpuId) (d : BufId) (t : Tid) (
   first : (may : Bool) → may ≡ true → (same_tid t t && may) ≡ true
   first may is = rw (same_tid_self t, is) refl
 
-  abbrev TalliesAfter : MonitorOut → MonitorState → Type 0
-  TalliesAfter told y =
-      Steps caps d.0 es (option_map (entry_of c t d) (monitor_effect told)) any_position
+  abbrev TalliesAfter : MonitorReply → MonitorState → Type 0
+  TalliesAfter abstract_answer y =
+      Steps caps d.0 es (option_map (entry_of c t d) (monitor_effect abstract_answer)) any_position
       (buffer_alone y)
 
   here_step : (ask : MonitorAsk)

@@ -62,19 +62,21 @@ sleeps_there b Sleepers = refl
 sleeps_there b Receivers = refl
 sleeps_there b Senders = refl
 
-module _ {P : Type 0} (Fits : P → Type 0) (cpu_of : P → CpuId) (IsInside : CpuId → Type 0)
+module _ {P : Type 0} (Coupled : P → Type 0) (cpu_of : P → CpuId) (IsInside : CpuId → Type 0)
     (homes : List CpuId) (moves : List Step) where
   -- a thread that is reported in a pending queue is in it
   pub read_pends : (t : Tid) (d : CpuId) (p : P) (here : P → Option (List Tid))
-      (home : Option (List Tid)) → AreMoves homes moves → Fits p
-      → IsObservedAs Fits cpu_of IsInside here home (pending_by moves d)
+      (home : Option (List Tid)) → AreMoves homes moves → Coupled p
+      → IsObservedAs Coupled cpu_of IsInside here home (pending_by moves d)
       → pends_read t home (here p) ≡ true → where_is homes moves t ≡ IsPending d
-  read_pends t d p here home lawful fits told is =
+  read_pends t d p here home lawful coupled abstract_answer is =
       either (said (option_map (is_in t) home)) (said (option_map (is_in t) (here p))) is
       (λ by_machine. said_in t home by_machine
-      (λ q at stands. pends (subst (λ r. is_in t r ≡ true) (told.by_machine q at) stands)))
+      (λ q at stands. pends
+      (subst (λ r. is_in t r ≡ true) (abstract_answer.by_machine q at) stands)))
       (λ by_part. said_in t (here p) by_part
-      (λ q at stands. pends (subst (λ r. is_in t r ≡ true) (told.by_part p q fits at) stands)))
+      (λ q at stands. pends
+      (subst (λ r. is_in t r ≡ true) (abstract_answer.by_part p q coupled at) stands)))
     where
       pends : is_in t (pending_by moves d) ≡ true → where_is homes moves t ≡ IsPending d
       pends stands = pend_where homes moves lawful d t stands
@@ -99,15 +101,16 @@ module _ {P : Type 0} (Fits : P → Type 0) (cpu_of : P → CpuId) (IsInside : C
 
     -- a thread that is reported in a wait list of a buffer sleeps there
     pub read_sleeps : (t : Tid) (line : WaitList) (p : P) (here : P → Option (WaitList → List Tid))
-        (home : Option (WaitList → List Tid)) → Fits p
-        → IsObservedAs Fits cpu_of IsInside here home (wait_lists b)
+        (home : Option (WaitList → List Tid)) → Coupled p
+        → IsObservedAs Coupled cpu_of IsInside here home (wait_lists b)
         → wait_list_read t home (here p) ≡ Some line
         → where_is homes moves t ≡ Asleep (At (Buffer b) line)
-    read_sleeps t line p here home fits told is =
+    read_sleeps t line p here home coupled abstract_answer is =
         elim (or_some (option_and_then (wait_list_among t) home)
         (option_and_then (wait_list_among t) (here p)) line is) [
-          | inl by_machine ↦ reported_by home told.by_machine by_machine
-          | inr by_part ↦ reported_by (here p) (λ ls at. told.by_part p ls fits at) by_part
+          | inl by_machine ↦ reported_by home abstract_answer.by_machine by_machine
+          | inr by_part ↦ reported_by (here p) (λ ls at. abstract_answer.by_part p ls coupled at)
+              by_part
         ]
       where
         reported_by : (o : Option (WaitList → List Tid))
@@ -120,22 +123,25 @@ module _ {P : Type 0} (Fits : P → Type 0) (cpu_of : P → CpuId) (IsInside : C
             (ap (wait_list_among t) (sym (same ls refl)) ∙ is))
 
 -- a queue that was read and contains a thread is not reported to be without it
-not_silent : (t : Tid) (told : Option (List Tid)) (queue : List Tid) → is_in t queue ≡ true
-    → said (option_map (is_in t) told) ≡ false
-    → told ≡ Some queue → ⊥
-not_silent t told queue stands silent is = let says =
+not_silent : (t : Tid) (abstract_answer : Option (List Tid)) (queue : List Tid)
+    → is_in t queue ≡ true
+    → said (option_map (is_in t) abstract_answer) ≡ false
+    → abstract_answer ≡ Some queue → ⊥
+not_silent t abstract_answer queue stands silent is = let says =
     ap (λ o. said (option_map (is_in t) o)) is in cc (says, stands, silent)
 
 -- and so are lists
-not_quiet : (t : Tid) (told : Option (WaitList → List Tid)) (wait_lists : WaitList → List Tid)
+not_quiet : (t : Tid) (abstract_answer : Option (WaitList → List Tid))
+    (wait_lists : WaitList → List Tid)
     (line : WaitList) → is_in t (wait_lists line) ≡ true
-    → option_and_then (wait_list_among t) told ≡ None → told ≡ Some wait_lists → ⊥
-not_quiet t told wait_lists line stands quiet is =
+    → option_and_then (wait_list_among t) abstract_answer ≡ None → abstract_answer ≡ Some wait_lists
+    → ⊥
+not_quiet t abstract_answer wait_lists line stands quiet is =
     among_none t wait_lists (rw is at quiet) line stands
 
 -- if something is reported, and every report is true, the truth is reported
-tells_truth : {A : Type 0} (told : Option A) (truth : A) → told ≢ None
-    → ((x : A) → told ≡ Some x → x ≡ truth) → told ≡ Some truth
+tells_truth : {A : Type 0} (abstract_answer : Option A) (truth : A) → abstract_answer ≢ None
+    → ((x : A) → abstract_answer ≡ Some x → x ≡ truth) → abstract_answer ≡ Some truth
 tells_truth None truth some same = absurd (some refl)
 tells_truth (Some x) truth some same = ap Some (same x refl)
 
@@ -152,14 +158,14 @@ home_there homes t there = (_, slice_get-get_or homes t.0 (record { 0 = 0 }) the
 module _ {P : Type 0} (watched : Watched P) (t : Tid) (home : CpuId)
     (home_is : home_of watched.homes t ≡ Some home) where
   open watched use {
-    Fits,
+    Coupled,
     cpu_of,
     IsInside,
     homes,
     moves,
     n,
     wait_lists,
-    own,
+    local,
     queue_at,
     queue_with,
     wait_lists_at,
@@ -169,32 +175,32 @@ module _ {P : Type 0} (watched : Watched P) (t : Tid) (home : CpuId)
 
   abbrev IsSilent : P → Type 0
   IsSilent q =
-      IsSilentOf t (own q) (home_of homes t) n queue_at (queue_with q) wait_lists_at
+      IsSilentOf t (local q) (home_of homes t) n queue_at (queue_with q) wait_lists_at
       (wait_lists_with q)
 
   abbrev Observed : Where → Type 0
-  Observed w = ReadsPlace Fits cpu_of IsInside IsSilent (home_of homes t) w
+  Observed w = ReadsPlace Coupled cpu_of IsInside IsSilent (home_of homes t) w
 
   -- a thread at `Home` is in its home CPU's scheduling state
-  at_home : (q : P) → cpu_of q ≡ home → Fits q → where_is homes moves t ≡ Home → IsSilent q → ⊥
-  at_home q at fits is silent =
-      let places = (stands q fits).places t in
+  at_home : (q : P) → cpu_of q ≡ home → Coupled q → where_is homes moves t ≡ Home → IsSilent q → ⊥
+  at_home q at coupled is silent =
+      let places = (stands q coupled).places t in
       let here : is_here homes (cpu_of q) moves t ≡ true =
       both (is_cpu_of (cpu_of q) (home_of homes t) (home_is ∙ ap Some (sym at)))
       (ap is_home is) in
       let once : one_if (is_here homes (cpu_of q) moves t) ≡ 1 = ap one_if here in
-      let current : one_if (is_thread t (own q).current) ≡ 0 = ap one_if silent.away.current in
-      let ready = count_none t (own q).ready silent.away.ready in
-      let ended = count_none t (own q).ended silent.away.ended in
+      let current : one_if (is_thread t (local q).current) ≡ 0 = ap one_if silent.away.current in
+      let ready = count_none t (local q).ready silent.away.ready in
+      let ended = count_none t (local q).ended silent.away.ended in
       omega (arith, places, once, current, ready, ended)
     where
       both : {a b : Bool} → a ≡ true → b ≡ true → (a && b) ≡ true
       both {a} {b} one other = ap (λ c. c && b) one ∙ other
 
-  in_hand : (q : P) (c : CpuId) → cpu_of q ≡ c → Fits q → where_is homes moves t ≡ Hand c
+  in_hand : (q : P) (c : CpuId) → cpu_of q ≡ c → Coupled q → where_is homes moves t ≡ Hand c
       → IsSilent q → ⊥
-  in_hand q c at fits is silent =
-      let hand = (stands q fits).hand t in
+  in_hand q c at coupled is silent =
+      let hand = (stands q coupled).hand t in
       let has : is_hand (cpu_of q) (where_is homes moves t) ≡ true =
       ap (is_hand (cpu_of q)) is ∙ (ap (same_cpu c) at ∙ same_cpu_self c) in
       absurd (cc (silent.away.hand, hand, has))
@@ -216,21 +222,23 @@ module _ {P : Type 0} (watched : Watched P) (t : Tid) (home : CpuId)
       counted_in t (wait_lists b line) (omega (arith, here, count))
 
   -- what is in the machine every part can report, and what is in a CPU's hands that CPU's part can
-  by_told : {A : Type 0} (w : Where) (here : P → Option A) (told : Option A) (truth : A)
-      → IsObservedAs Fits cpu_of IsInside here told truth
-      → ((p : P) → IsSilent p → (told ≡ Some truth → ⊥) × (here p ≡ Some truth → ⊥)) → Observed w
+  by_told : {A : Type 0} (w : Where) (here : P → Option A) (abstract_answer : Option A) (truth : A)
+      → IsObservedAs Coupled cpu_of IsInside here abstract_answer truth
+      → ((p : P) → IsSilent p → (abstract_answer ≡ Some truth → ⊥) × (here p ≡ Some truth → ⊥))
+      → Observed w
   by_told w here (Some x) truth sees quiet =
       record {
         cpu = home;
         may = inl home_is;
-        has = λ p same fits silent. (quiet p silent).0 (ap Some (sees.by_machine x refl));
+        has = λ p same coupled silent. (quiet p silent).0 (ap Some (sees.by_machine x refl));
       }
   by_told w here None truth sees quiet = let it = sees.somewhere refl in record {
     cpu = it.cpu;
     may = inr (inr (it.known, it.inside));
     has =
-        λ p same fits silent. (quiet p silent).1
-        (tells_truth (here p) truth (it.has p same fits) (λ x told. sees.by_part p x fits told));
+        λ p same coupled silent. (quiet p silent).1
+        (tells_truth (here p) truth (it.has p same coupled)
+        (λ x abstract_answer. sees.by_part p x coupled abstract_answer));
   }
 
   by_queue : (d : CpuId) → where_is homes moves t ≡ IsPending d → Observed (IsPending d)
@@ -273,13 +281,13 @@ module _ {P : Type 0} (watched : Watched P) (t : Tid) (home : CpuId)
           record {
             cpu = home;
             may = inl home_is;
-            has = λ q at fits silent. at_home q at fits is silent;
+            has = λ q at coupled silent. at_home q at coupled is silent;
           }
       go (Hand c) is =
           record {
             cpu = c;
             may = inr (inl refl);
-            has = λ q at fits silent. in_hand q c at fits is silent;
+            has = λ q at coupled silent. in_hand q c at coupled is silent;
           }
       go (IsPending d) is = by_queue d is
       go (Asleep (At lock line)) is = asleep lock line is

@@ -8,8 +8,8 @@ use Rattle.event_log.specs.{declared.ids.TheConstants.THREADS, Messages.{Message
 use Rattle.layer_traits.specs.declared.locked.Side.{Side, TheVariants.{Receivers, Senders}}
 use Rattle.layer_traits.specs.declared.buffer_edits.BufferEdit.{BufferEdit, TheVariants.Enter}
 use Rattle.layer_traits.specs.declared.buffer_edits.BufferEdit.TheVariants.{TryPut, TryTake, Shut}
-use Rattle.layer_traits.specs.declared.buffer_edits.BufferOut.{BufferOut, TheVariants.Entered}
-use Rattle.layer_traits.specs.declared.buffer_edits.BufferOut.TheVariants.{NotYet, Done, WasShut}
+use Rattle.layer_traits.specs.declared.buffer_edits.BufferReply.{BufferReply, TheVariants.Entered}
+use Rattle.layer_traits.specs.declared.buffer_edits.BufferReply.TheVariants.{NotYet, Done, WasShut}
 use Rattle.thread_blocks.specs.Queues.{same_tid, is_in, first, rest}
 
 -- what a buffer's block holds: the queue of each side, first in front; the items, first in front;
@@ -129,7 +129,7 @@ buffer_edited (Shut t) x = shut x
 
 -- the result of an edit: the position drawn; the effect; that it is not the thread's turn yet; or
 -- the numbers of the close
-abbrev pub buffer_answer : BufferEdit → BufferState → BufferOut
+abbrev pub buffer_answer : BufferEdit → BufferState → BufferReply
 buffer_answer (Enter t side) x = Entered (drawn_of side x)
 buffer_answer (TryPut t m) x =
     if is_next Senders t x then Done (effect_kind Senders x) x.effects m else NotYet

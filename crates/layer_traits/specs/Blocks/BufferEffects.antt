@@ -9,7 +9,7 @@ use Rattle.event_log.specs.declared.ids.{LockId.TheVariants.{Pending, Buffer}, T
 use Rattle.event_log.specs.{Buffers.{IsAllowedEffect, empty_buffers, items_of}, History.same_lock}
 use Rattle.event_log.specs.{Messages.{Message, no_message}, Runs.{after_entry, count_of}}
 use Rattle.event_log.specs.Runs.{count_of_kind, is_closed}
-use Rattle.layer_traits.specs.declared.locked.QEdit.TheVariants.{Acquire, Inside, Release}
+use Rattle.layer_traits.specs.declared.locked.QLockCall.TheVariants.{Acquire, Inside, Release}
 use Rattle.layer_traits.specs.declared.locked.Side.{Side, TheVariants.{Receivers, Senders}}
 use Rattle.layer_traits.specs.declared.conditions.CvEdit.TheVariants.{Edit, SignalFront}
 use Rattle.layer_traits.specs.declared.buffer_edits.BufferEdit.{BufferEdit, TheVariants.Enter}

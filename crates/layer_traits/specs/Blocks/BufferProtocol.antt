@@ -5,13 +5,14 @@ use Rattle.std.specs.Prelude.{◌≡◌, Bool, true, false, not, ◌&&◌, List,
 use Rattle.std.specs.Prelude.{if◌then◌else◌}
 use Rattle.event_log.specs.{declared.ids.{LockId.LockId, Tid.Tid}, History.same_lock}
 use Rattle.event_log.specs.Sections.{Section}
-use Rattle.layer_traits.specs.declared.locked.QEdit.TheVariants.{Acquire, Inside, Release}
+use Rattle.layer_traits.specs.declared.locked.QLockCall.TheVariants.{Acquire, Inside, Release}
 use Rattle.layer_traits.specs.declared.locked.Side.{Side, TheVariants.{Receivers, Senders}}
 use Rattle.layer_traits.specs.declared.conditions.CvEdit.{TheVariants.{Edit, SignalFront}, CvEdit}
 use Rattle.layer_traits.specs.declared.conditions.CvLeave.{CvLeave, TheVariants.{Leave, Wait}}
-use Rattle.layer_traits.specs.declared.{conditions.CvOut.CvOut, buffer_edits.BufferOut.BufferOut}
-use Rattle.layer_traits.specs.declared.buffer_edits.BufferEdit.{BufferEdit, TheVariants.Enter}
-use Rattle.layer_traits.specs.declared.buffer_edits.BufferEdit.TheVariants.{TryPut, TryTake, Shut}
+use Rattle.layer_traits.specs.declared.conditions.CvReply.{CvReply}
+use Rattle.layer_traits.specs.declared.buffer_edits.{BufferReply.BufferReply, BufferEdit.BufferEdit}
+use Rattle.layer_traits.specs.declared.buffer_edits.BufferEdit.TheVariants.{Enter, TryPut, TryTake}
+use Rattle.layer_traits.specs.declared.buffer_edits.BufferEdit.TheVariants.{Shut}
 use Rattle.layer_traits.specs.Layers.Conditions.{CvCall, MonitorRules, cv_rules}
 use Rattle.layer_traits.specs.Layers.QLocking.{LockRules, LockState, lock_after, lock_caller}
 use Rattle.layer_traits.specs.Blocks.BufferBlocks.{BufferState, buffer_answer, buffer_edited}
@@ -27,7 +28,7 @@ abbrev pub BufferLock : Type 0
 BufferLock = LockState BufferState
 
 -- what the edits mean, without a protocol
-abbrev pub plain_rules : MonitorRules BufferEdit BufferState BufferOut
+abbrev pub plain_rules : MonitorRules BufferEdit BufferState BufferReply
 plain_rules = record {
   caller = thread_of_edit;
   edited = buffer_edited;
@@ -37,7 +38,7 @@ plain_rules = record {
 }
 
 -- the sections of buffers, by the same rules with or without a protocol
-abbrev pub buffer_rules : LockRules (CvEdit BufferEdit) CvLeave BufferState (CvOut BufferOut)
+abbrev pub buffer_rules : LockRules (CvEdit BufferEdit) CvLeave BufferState (CvReply BufferReply)
 buffer_rules = cv_rules plain_rules
 
 -- a lock after these sections
@@ -101,7 +102,7 @@ abbrev pub buffer_allowed : (LockId → Option BufferLock) → List BufferSectio
 buffer_allowed opening past s = IsDue opening past s.lock s.edit
 
 -- what the edits of buffers mean
-abbrev pub buffer_monitor_rules : MonitorRules BufferEdit BufferState BufferOut
+abbrev pub buffer_monitor_rules : MonitorRules BufferEdit BufferState BufferReply
 buffer_monitor_rules = record {
   caller = thread_of_edit;
   edited = buffer_edited;

@@ -44,18 +44,18 @@ IsProperCall None = Unit {0}
 IsProperCall (Some s) = IsProper s.lock s.edit
 
 -- a section may follow these: it edits a block of its kind, and its call is allowed
-pub record SectionAllowed {E B O : Type 0} (rules : Rules E B O) (mv : MoveRules E O)
+pub record SectionAllowed {E B O : Type 0} (protocol : Rules E B O) (mv : MoveRules E O)
     (opening : LockId → Option (QueueBlock B))
     (past : List (Section (QueueEdit E))) (s : Section (QueueEdit E)) : Type 0 where
   pub proper : IsProper s.lock s.edit
-  pub call : QueueAllowed (kernel rules mv opening) (map event_of past) (event_of s)
+  pub call : QueueAllowed (kernel protocol mv opening) (map event_of past) (event_of s)
 
 -- the edits of shared queues over those of the layer above
 abbrev pub queue_rules : {E B O : Type 0} → Rules E B O → MoveRules E O
     → Rules (QueueEdit E) (QueueBlock B) (QueueAnswer O)
-queue_rules rules mv =
+queue_rules protocol mv =
     record {
-      edited = queue_edited rules.edited;
-      answer = queue_answer rules.answer;
-      allowed = SectionAllowed rules mv;
+      edited = queue_edited protocol.edited;
+      answer = queue_answer protocol.answer;
+      allowed = SectionAllowed protocol mv;
     }

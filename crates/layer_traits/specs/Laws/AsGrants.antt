@@ -5,16 +5,16 @@ use Rattle.std.proofs.Common.{sym, subst, ◌∙◌, Option, Some, None, MatchOp
 use Rattle.event_log.specs.declared.ids.{CpuId.CpuId, LockId.LockId, TheConstants.CPUS}
 use Rattle.event_log.specs.declared.{grants.GrantEvent.TheVariants.Peek, events.Event.Event}
 use Rattle.event_log.specs.declared.events.Event.TheVariants.{Draw, Look, Free}
-use Rattle.event_log.specs.Actions.{Take as TakeSpot, Try as TryEntry, Give as GiveOn, acts_of}
-use Rattle.event_log.specs.{Actions.{takes, gives, spot_of}, Grants.{IsLegalGrants, acts_of_grants}}
-use Rattle.event_log.specs.{Grants.{grant_lock_phase, grant_word}, History.{IsLawful, same_cpu}}
-use Rattle.event_log.specs.{Sections.{Section, block_after, sections_in}, WordsLog.IsLegalWords}
-use Rattle.event_log.specs.WordsLog.{Idle, Holding, Waiting, lock_phase}
+use Rattle.event_log.specs.Actions.{Take as TakeIndex, Try as TryEntry, Give as GiveOn, acts_of}
+use Rattle.event_log.specs.{Actions.{takes, gives, ticket_index_of}, Grants.IsLegalGrants}
+use Rattle.event_log.specs.{Grants.{acts_of_grants, grant_lock_phase, grant_word}, History.IsLawful}
+use Rattle.event_log.specs.{History.same_cpu, Sections.{Section, block_after, sections_in}}
+use Rattle.event_log.specs.WordsLog.{IsLegalWords, Idle, Holding, Waiting, lock_phase}
 use Rattle.event_log.proofs.{Foreign.sections_acts, GrantWords.{legal_grants, takes_grants}}
 use Rattle.event_log.proofs.Tickets.{legal_acts, takes_acts}
 use Rattle.layer_traits.specs.{declared.edits.Mark.Mark, Protocols.AsGrants.GrantsAgree}
 use Rattle.layer_traits.specs.Protocols.{AsGrants.as_grants, GrantProtocol.GrantMayCome}
-use Rattle.layer_traits.specs.Protocols.GrantProtocol.{SomeoneHasIt, grant_sections}
+use Rattle.layer_traits.specs.Protocols.GrantProtocol.{IsHeldBySome, grant_sections}
 use Rattle.layer_traits.specs.Protocols.{OneLock.SomeoneInside, WordsProtocol.MayCome}
 use Rattle.layer_traits.specs.Protocols.WordsProtocol.{KeepsProtocol, edit_of, sections}
 use Rattle.layer_traits.specs.Protocols.WordsProtocol.{words_legal}
@@ -37,7 +37,8 @@ module _ {M : Type 0} where
       (Peek cpu lock ticket (grant_word lock (ticket % CPUS) (as_grants past)) ∷ as_grants past)
       ((waits, refl), grants_agree.legal) in
       let looks = legal_acts same (Look cpu lock ticket read ∷ past) legal in
-      peeks.0.1 ∙ (ap (λ l. gives lock l == spot_of cpu l) (grants_agree.acts same) ∙ sym looks.0.1)
+      peeks.0.1 ∙ (ap (λ l. gives lock l == ticket_index_of cpu l) (grants_agree.acts same)
+      ∙ sym looks.0.1)
 
   pub grants_agree : (log : List (Event M)) → IsLegalWords log → GrantsAgree log
   grants_agree [] legal = record { legal = tt; stands = λ c. refl; acts = λ name. refl }
@@ -55,7 +56,7 @@ module _ {M : Type 0} where
           before.legal,
         );
         stands = λ c. ap (λ s. if same_cpu cpu c then Waiting lock ticket else s) (before.stands c);
-        acts = λ name. ap (λ l. TakeSpot cpu lock ∷ l) (before.acts name);
+        acts = λ name. ap (λ l. TakeIndex cpu lock ∷ l) (before.acts name);
       }
   grants_agree (Look cpu lock ticket read ∷ past) legal =
       let before = grants_agree past legal.1 in
@@ -102,11 +103,13 @@ module _ {E : Type 0} (Allowed : List (Section E) → Section E → Type 0) wher
       → KeepsProtocol Allowed past e
       → IsLawful (GrantMayCome Allowed) (as_grants past) → IsLegalGrants (as_grants (e ∷ past))
       → IsLawful (GrantMayCome Allowed) (as_grants (e ∷ past))
-  keeps_as_grants (Draw cpu lock ticket) past legal keeps before told = ((told.0, tt), before)
-  keeps_as_grants (Look cpu lock ticket read) past legal keeps before told = ((told.0, tt), before)
-  keeps_as_grants (Free cpu lock mark) past legal keeps before told = (
+  keeps_as_grants (Draw cpu lock ticket) past legal keeps before abstract_answer =
+      ((abstract_answer.0, tt), before)
+  keeps_as_grants (Look cpu lock ticket read) past legal keeps before abstract_answer =
+      ((abstract_answer.0, tt), before)
+  keeps_as_grants (Free cpu lock mark) past legal keeps before abstract_answer = (
     (
-      told.0,
+      abstract_answer.0,
       subst (λ l. Allowed l (record { cpu = cpu; lock = lock; edit = mark.edit }))
           (sym (sections_as_grants past legal)) keeps,
     ),
@@ -127,7 +130,7 @@ pub home_as_grants : {E B : Type 0} (edited : E → B → B) (opening : LockId �
     (log : List (Event (Mark E))) → IsLegalWords log → (lock : LockId)
     (home : Option B) → MatchOption home (SomeoneInside lock log)
     (λ block. block_after edited opening lock (sections log) ≡ Some block)
-    → MatchOption home (SomeoneHasIt lock (as_grants log))
+    → MatchOption home (IsHeldBySome lock (as_grants log))
     (λ block. block_after edited opening lock (grant_sections (as_grants log)) ≡ Some block)
 home_as_grants edited opening log legal lock None inside =
     (inside.0, inside.1, stands_as_grants log legal inside.0 ∙ inside.2)

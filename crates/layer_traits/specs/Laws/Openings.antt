@@ -34,7 +34,7 @@ pub opens_so : (caps : List ℕ) (homes : List CpuId) (c : CpuId)
     (opening : LockId → Option (QueueBlock BufferLock)) → StartsWell opening
     → homes_in opening ≡ homes → IsSome (opening (Pending c)) → inner opening ≡ opening_locks caps
     → OpensSo caps homes c opening
-opens_so caps homes c opening starts homes_are own locks = record {
+opens_so caps homes c opening starts homes_are local locks = record {
   buffers = λ b. above_is b (opening (Buffer b)) (starts.kinds (Buffer b))
       ∙ ap (λ blocks. option_map Above (blocks (Buffer b))) locks
       ∙ made_above caps (slice_get caps b.0);
@@ -44,6 +44,6 @@ opens_so caps homes c opening starts homes_are own locks = record {
   where
     there : (d : CpuId) → (d ≡ c) ⊎ ((u : Tid) × (slice_get homes u.0 ≡ Some d))
         → IsSome (opening (Pending d))
-    there d (inl is) = subst (λ e. IsSome (opening (Pending e))) (sym is) own
+    there d (inl is) = subst (λ e. IsSome (opening (Pending e))) (sym is) local
     there d (inr home) =
         starts.queues home.0 d (ap (λ all. slice_get all home.0.0) homes_are ∙ home.1)

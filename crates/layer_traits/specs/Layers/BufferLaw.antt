@@ -8,15 +8,16 @@ use Rattle.event_log.specs.declared.ids.{CpuId.CpuId, Tid.Tid, TheConstants.THRE
 use Rattle.event_log.specs.{Buffers.{IsAllowedEffect, items_of}, Runs.{Closes, Receives, Sends}}
 use Rattle.event_log.specs.{Runs.{group_of, is_closed}, History.AreForeign, Messages.Message}
 use Rattle.event_log.specs.Messages.{no_message}
-use Rattle.layer_traits.specs.declared.locked.QEdit.TheVariants.{Acquire, Inside, Release}
-use Rattle.layer_traits.specs.declared.locked.{QOut.QOut, Side.{Side, TheVariants.Receivers}}
-use Rattle.layer_traits.specs.declared.locked.Side.TheVariants.{Senders}
+use Rattle.layer_traits.specs.declared.locked.QLockCall.TheVariants.{Acquire, Inside, Release}
+use Rattle.layer_traits.specs.declared.locked.{QLockReply.QLockReply, Side.Side}
+use Rattle.layer_traits.specs.declared.locked.Side.TheVariants.{Receivers, Senders}
 use Rattle.layer_traits.specs.declared.conditions.CvEdit.TheVariants.{Edit, SignalFront}
-use Rattle.layer_traits.specs.declared.conditions.{CvLeave.TheVariants.{Leave, Wait}, CvOut.CvOut}
+use Rattle.layer_traits.specs.declared.conditions.CvLeave.TheVariants.{Leave, Wait}
+use Rattle.layer_traits.specs.declared.conditions.CvReply.{CvReply}
 use Rattle.layer_traits.specs.declared.buffer_edits.BufferEdit.{BufferEdit, TheVariants.Enter}
 use Rattle.layer_traits.specs.declared.buffer_edits.BufferEdit.TheVariants.{TryPut, TryTake, Shut}
-use Rattle.layer_traits.specs.declared.buffer_edits.BufferOut.{BufferOut, TheVariants.Entered}
-use Rattle.layer_traits.specs.declared.buffer_edits.BufferOut.TheVariants.{NotYet, Done, WasShut}
+use Rattle.layer_traits.specs.declared.buffer_edits.BufferReply.{BufferReply, TheVariants.Entered}
+use Rattle.layer_traits.specs.declared.buffer_edits.BufferReply.TheVariants.{NotYet, Done, WasShut}
 use Rattle.layer_traits.specs.declared.calls.Call.{Call, TheVariants.{Send, Recv, Close}}
 use Rattle.layer_traits.specs.declared.calls.{Effect.Effect, Reply.Reply, ReplyKind.ReplyKind}
 use Rattle.layer_traits.specs.declared.queue_edits.{QueueEdit.QueueEdit, QueueAnswer.QueueAnswer}
@@ -32,8 +33,8 @@ use Rattle.layer_traits.specs.{Blocks.BufferEffects.{contents_of, entry}, Thread
 use Rattle.layer_traits.specs.{Threads.Places.{Threads, cpu_of_step}, Polling.Plans.{Left, Plan}}
 use Rattle.layer_traits.specs.Polling.Plans.{Now, Act, raised}
 use Rattle.event_log.specs.declared.entries.Kind.TheVariants as kind
-use Rattle.layer_traits.specs.declared.locked.QOut.TheVariants as out
-use Rattle.layer_traits.specs.declared.conditions.CvOut.TheVariants as answer
+use Rattle.layer_traits.specs.declared.locked.QLockReply.TheVariants as out
+use Rattle.layer_traits.specs.declared.conditions.CvReply.TheVariants as answer
 use Rattle.layer_traits.specs.declared.calls.Reply.TheVariants as reply
 use Rattle.layer_traits.specs.declared.calls.ReplyKind.TheVariants as bare
 
@@ -188,7 +189,7 @@ pub record MovesGrow (ActsFor : CpuId → Type 0) (cpu : CpuId) (old new : List 
   pub others : List Step
   pub mine : List Step
   pub foreign : AreForeign ActsFor cpu_of_step others
-  pub own : AllByRecursion (λ s. s.cpu ≡ cpu) mine
+  pub local : AllByRecursion (λ s. s.cpu ≡ cpu) mine
   pub is : new ≡ mine ++ (others ++ old)
 
 -- a CPU's pending operation: a call of its current thread, or a call of the scheduler
@@ -216,10 +217,10 @@ still_passing pass (Some answer) = None
 
 -- the thread runs on, or it sleeps and its call continues; a call that returns leaves the hand
 -- empty; no thread ends
-pub record RunsOn {A : Type 0} (t : Tid) (own left : Threads) (answer : Option A) : Type 0 where
+pub record RunsOn {A : Type 0} (t : Tid) (local left : Threads) (answer : Option A) : Type 0 where
   pub current : (left.current ≡ Some t) ⊎ ((left.current ≡ None) × (answer ≡ None))
   pub hand : (a : A) → answer ≡ Some a → left.hand ≡ None
-  pub ended : left.ended ≡ own.ended
+  pub ended : left.ended ≡ local.ended
 
 -- a buffer allows an effect of this kind with this message after these
 abbrev pub AllowsAfter : List ℕ → List Entry → BufId → Kind → Message → Type 0
@@ -239,10 +240,10 @@ IsRefused (Close b) caps past = ⊥
 
 -- a CPU's private state: that of its conditions, and the call state of each thread
 pub record Buffering : Type 0 where
-  pub cv : Waiting BufferOut
+  pub cv : Waiting BufferReply
   pub call_states : List CallState
 
-abbrev pub buffering : Waiting BufferOut → List CallState → Buffering
+abbrev pub buffering : Waiting BufferReply → List CallState → Buffering
 buffering cv call_states = record { cv = cv; call_states = call_states }
 
 -- at the start no thread ever called
@@ -262,17 +263,17 @@ section_at t call SignalsOwn = Inside (SignalFront t (side_of call))
 section_at t call Releases = Release (Leave t)
 
 -- the result of an edit of the buffer, in a lock's result
-abbrev pub edit_report_in : CvOut BufferOut → BufferOut
+abbrev pub edit_report_in : CvReply BufferReply → BufferReply
 edit_report_in (answer.Did out) = out
 edit_report_in other = NotYet
 
-abbrev pub reported_by : QOut (CvOut BufferOut) → BufferOut
+abbrev pub reported_by : QLockReply (CvReply BufferReply) → BufferReply
 reported_by (out.Did cv) = edit_report_in cv
 reported_by other = NotYet
 
 -- the thread has entered its queue: it records its position, and tries next; or it has closed the
 -- buffer, and signals
-abbrev pub enlisted : CallState → BufferOut → CallState
+abbrev pub enlisted : CallState → BufferReply → CallState
 enlisted call_state (Entered position) =
     record {
       stage = Tries;
@@ -290,7 +291,7 @@ enlisted call_state (WasShut op pos) = record {
 }
 
 -- the thread has tried: after its effect it signals, otherwise it waits
-abbrev pub tried : CallState → BufferOut → CallState
+abbrev pub tried : CallState → BufferReply → CallState
 tried call_state (Entered position) =
     record {
       stage = Waits;
@@ -330,7 +331,7 @@ at_stage stage call_state =
     }
 
 -- the call state after the section of a stage with this result
-abbrev pub recorded : CallState → Stage → QOut (CvOut BufferOut) → CallState
+abbrev pub recorded : CallState → Stage → QLockReply (CvReply BufferReply) → CallState
 recorded call_state Idle out = call_state
 recorded call_state Acquires out = at_stage Enters call_state
 recorded call_state Enters out = enlisted call_state (reported_by out)
@@ -348,33 +349,35 @@ replied call call_state Releases = option_map (reply_of call) call_state.effect
 replied call call_state stage = None
 
 -- what a poll leaves, from what the poll of its section left
-abbrev pub left_recorded_with : Tid → Call → CallState → List CallState → Stage → Waiting BufferOut
-    → Option (Outcome (QOut (CvOut BufferOut)))
+abbrev pub left_recorded_with : Tid → Call → CallState → List CallState → Stage
+    → Waiting BufferReply
+    → Option (Outcome (QLockReply (CvReply BufferReply)))
     → Left Buffering Reply
 left_recorded_with t call call_state call_states stage cv None =
-    record { own = buffering cv (slice_set call_states t.0 call_state); answer = None }
+    record { local = buffering cv (slice_set call_states t.0 call_state); answer = None }
 left_recorded_with t call call_state call_states stage cv (Some outcome) =
     record {
-      own = buffering cv (slice_set call_states t.0 (recorded call_state stage outcome.out));
+      local = buffering cv (slice_set call_states t.0 (recorded call_state stage outcome.out));
       answer = replied call call_state stage;
     }
 
 abbrev pub left_recorded : Tid → Call → CallState → List CallState → Stage
-    → Left (Waiting BufferOut) (Outcome (QOut (CvOut BufferOut))) → Left Buffering Reply
+    → Left (Waiting BufferReply) (Outcome (QLockReply (CvReply BufferReply))) → Left Buffering Reply
 left_recorded t call call_state call_states stage left =
-    left_recorded_with t call call_state call_states stage left.own left.answer
+    left_recorded_with t call call_state call_states stage left.local left.answer
 
 -- the names, results and states of the plans of buffers
 abbrev pub BufferPlan : Type 0 → Type 0
 BufferPlan A =
-    Plan (QueueEdit (CvCall BufferEdit)) (QueueAnswer (Outcome (QOut (CvOut BufferOut)))) Buffering
+    Plan (QueueEdit (CvCall BufferEdit)) (QueueAnswer (Outcome (QLockReply (CvReply BufferReply))))
+    Buffering
     A
 
 -- a plan that continues in the same poll if the lower layer's section returns without an action
 abbrev pub chained_now : {N R S T A B : Type 0} → (T → Plan N R T B) → (Left S A → Left T B)
     → Left S A → Option A → Plan N R T B
 chained_now next f left None = Now (f left)
-chained_now next f left (Some answer) = next (f left).own
+chained_now next f left (Some answer) = next (f left).local
 
 abbrev pub chained : {N R S T A B : Type 0} → (T → Plan N R T B) → (Left S A → Left T B)
     → Plan N R S A → Plan N R T B
@@ -383,52 +386,53 @@ chained next f (Act lock name react) = Act lock name (λ reply. f (react reply))
 
 module _ (homes : List CpuId) (c : CpuId) (t : Tid) (call : Call) where
   -- the plan of a stage's section, in the lower layer
-  abbrev pub plan_beneath : Stage → Waiting BufferOut
-      → Plan (QueueEdit (CvCall BufferEdit)) (QueueAnswer (Outcome (QOut (CvOut BufferOut))))
-      (Waiting BufferOut) (Outcome (QOut (CvOut BufferOut)))
+  abbrev pub plan_beneath : Stage → Waiting BufferReply
+      → Plan (QueueEdit (CvCall BufferEdit))
+      (QueueAnswer (Outcome (QLockReply (CvReply BufferReply))))
+      (Waiting BufferReply) (Outcome (QLockReply (CvReply BufferReply)))
   plan_beneath stage cv =
       cv_plan (lock_moves buffer_rules) homes c (buffer_of call) (section_at t call stage) cv
 
   -- the plan of one section of a call, at a stage
   abbrev pub stage_plan : Stage → CallState → Buffering → BufferPlan Reply
-  stage_plan stage call_state own =
-      raised (left_recorded t call call_state own.call_states stage) (plan_beneath stage own.cv)
+  stage_plan stage call_state local =
+      raised (left_recorded t call call_state local.call_states stage) (plan_beneath stage local.cv)
 
   -- the plan of a stage whose section may be over without an action: the next stage's section then
   -- follows in the same poll
   abbrev pub plan_on : Stage → (CallState → Buffering → BufferPlan Reply) → CallState → Buffering
       → BufferPlan Reply
-  plan_on stage next call_state own =
+  plan_on stage next call_state local =
       chained (λ left. next (call_state_of left.call_states t) left)
-      (left_recorded t call call_state own.call_states stage) (plan_beneath stage own.cv)
+      (left_recorded t call call_state local.call_states stage) (plan_beneath stage local.cv)
 
   -- the plan of a call at a stage
   abbrev pub plan_at : Stage → CallState → Buffering → BufferPlan Reply
-  plan_at Idle call_state own = plan_on Acquires (stage_plan Enters) call_state own
-  plan_at Acquires call_state own = plan_on Acquires (stage_plan Enters) call_state own
-  plan_at Enters call_state own = stage_plan Enters call_state own
-  plan_at Tries call_state own = stage_plan Tries call_state own
-  plan_at Waits call_state own =
-      plan_on Waits (plan_on AcquiresAgain (stage_plan Tries)) call_state own
-  plan_at AcquiresAgain call_state own = plan_on AcquiresAgain (stage_plan Tries) call_state own
-  plan_at Signals call_state own = stage_plan Signals call_state own
-  plan_at SignalsOwn call_state own = stage_plan SignalsOwn call_state own
-  plan_at Releases call_state own = stage_plan Releases call_state own
+  plan_at Idle call_state local = plan_on Acquires (stage_plan Enters) call_state local
+  plan_at Acquires call_state local = plan_on Acquires (stage_plan Enters) call_state local
+  plan_at Enters call_state local = stage_plan Enters call_state local
+  plan_at Tries call_state local = stage_plan Tries call_state local
+  plan_at Waits call_state local =
+      plan_on Waits (plan_on AcquiresAgain (stage_plan Tries)) call_state local
+  plan_at AcquiresAgain call_state local = plan_on AcquiresAgain (stage_plan Tries) call_state local
+  plan_at Signals call_state local = stage_plan Signals call_state local
+  plan_at SignalsOwn call_state local = stage_plan SignalsOwn call_state local
+  plan_at Releases call_state local = stage_plan Releases call_state local
 
   -- the plan of a poll of a call
   abbrev pub fifo_plan : Buffering → BufferPlan Reply
-  fifo_plan own =
-      plan_at (going (call_state_of own.call_states t) call).stage
-      (going (call_state_of own.call_states t) call) own
+  fifo_plan local =
+      plan_at (going (call_state_of local.call_states t) call).stage
+      (going (call_state_of local.call_states t) call) local
 
 -- a pass leaves the call states unchanged
-abbrev pub call_states_passed : {A : Type 0} → List CallState → Left (Waiting BufferOut) A
+abbrev pub call_states_passed : {A : Type 0} → List CallState → Left (Waiting BufferReply) A
     → Left Buffering A
 call_states_passed call_states left =
-    record { own = buffering left.own call_states; answer = left.answer }
+    record { local = buffering left.local call_states; answer = left.answer }
 
 -- the plan of a pass
 abbrev pub fifo_pass_plan : List CpuId → CpuId → Pass → Buffering → BufferPlan (Unit {0})
-fifo_pass_plan homes c p own =
-    raised (call_states_passed own.call_states)
-    (cv_pass_plan (lock_moves buffer_rules) homes c p own.cv)
+fifo_pass_plan homes c p local =
+    raised (call_states_passed local.call_states)
+    (cv_pass_plan (lock_moves buffer_rules) homes c p local.cv)

@@ -1,19 +1,20 @@
 -- Conditions: what the edits that signal and wait make of the block of a queuing lock.
 use Rattle.std.specs.Prelude.{List, Option, Some, None}
 use Rattle.event_log.specs.{declared.ids.{LockId.LockId, Tid.Tid}, Sections.Section}
-use Rattle.layer_traits.specs.declared.locked.{QEdit.QEdit, Side.{Side, TheVariants.Receivers}}
-use Rattle.layer_traits.specs.declared.locked.{Side.TheVariants.Senders, WakeWaiter.WakeWaiter}
-use Rattle.layer_traits.specs.declared.locked.WakeWaiter.TheVariants.{Nobody, Receiver, Sender}
+use Rattle.layer_traits.specs.declared.locked.{QLockCall.QLockCall, Side.Side}
+use Rattle.layer_traits.specs.declared.locked.Side.TheVariants.{Receivers, Senders}
+use Rattle.layer_traits.specs.declared.locked.WakeWaiter.{WakeWaiter, TheVariants.Nobody}
+use Rattle.layer_traits.specs.declared.locked.WakeWaiter.TheVariants.{Receiver, Sender}
 use Rattle.layer_traits.specs.declared.conditions.CvEdit.{CvEdit, TheVariants.{Edit, SignalFront}}
 use Rattle.layer_traits.specs.declared.conditions.CvLeave.{CvLeave, TheVariants.{Leave, Wait}}
-use Rattle.layer_traits.specs.declared.conditions.CvOut.{CvOut, TheVariants.{Did, Signalled, Left}}
-use Rattle.layer_traits.specs.declared.conditions.CvOut.TheVariants.{Waited}
+use Rattle.layer_traits.specs.declared.conditions.CvReply.{CvReply, TheVariants.{Did, Signalled}}
+use Rattle.layer_traits.specs.declared.conditions.CvReply.TheVariants.{Left, Waited}
 use Rattle.layer_traits.specs.Layers.QLocking.{LockState, LockRules}
 
 -- the calls on a lock with conditions: Acquire, an edit or a signal inside, and a leave or a wait
 -- as its release
 abbrev pub CvCall : Type 0 → Type 0
-CvCall G = QEdit (CvEdit G) CvLeave
+CvCall G = QLockCall (CvEdit G) CvLeave
 
 -- what an edit of the block means: its caller, the block that it leaves and its result. Which
 -- thread is at the head of a side's queue and may proceed. After which sections which CPU may do
@@ -34,14 +35,14 @@ signal_to Receivers (Some t) = Receiver t
 signal_to Senders (Some t) = Sender t
 
 -- which thread a result wakes
-abbrev pub signals_in : {O : Type 0} → CvOut O → WakeWaiter
+abbrev pub signals_in : {O : Type 0} → CvReply O → WakeWaiter
 signals_in (Did out) = Nobody
 signals_in (Signalled side front) = signal_to side front
 signals_in Left = Nobody
 signals_in (Waited side) = Nobody
 
 -- on which side the caller of a release waits
-abbrev pub waits_in : {O : Type 0} → CvOut O → Option Side
+abbrev pub waits_in : {O : Type 0} → CvReply O → Option Side
 waits_in (Did out) = None
 waits_in (Signalled side front) = None
 waits_in Left = None
@@ -58,7 +59,7 @@ cv_edited monitor_rules (Edit e) block = monitor_rules.edited e block
 cv_edited monitor_rules (SignalFront t side) block = block
 
 -- its result: a signal says which thread it found
-abbrev pub cv_answer : {G B O : Type 0} → MonitorRules G B O → CvEdit G → B → CvOut O
+abbrev pub cv_answer : {G B O : Type 0} → MonitorRules G B O → CvEdit G → B → CvReply O
 cv_answer monitor_rules (Edit e) block = Did (monitor_rules.answer e block)
 cv_answer monitor_rules (SignalFront t side) block = Signalled side (monitor_rules.ready side block)
 
@@ -68,13 +69,13 @@ leave_caller (Leave t) = t
 leave_caller (Wait t side) = t
 
 -- the result of its release
-abbrev pub leave_answer : {B O : Type 0} → CvLeave → B → CvOut O
+abbrev pub leave_answer : {B O : Type 0} → CvLeave → B → CvReply O
 leave_answer (Leave t) block = Left
 leave_answer (Wait t side) block = Waited side
 
 -- the rules of a queuing lock with conditions
 abbrev pub cv_rules : {G B O : Type 0} → MonitorRules G B O
-    → LockRules (CvEdit G) CvLeave B (CvOut O)
+    → LockRules (CvEdit G) CvLeave B (CvReply O)
 cv_rules monitor_rules = record {
   caller = cv_caller monitor_rules;
   edited = cv_edited monitor_rules;

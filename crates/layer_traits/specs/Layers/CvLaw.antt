@@ -4,10 +4,11 @@
 use Rattle.std.specs.Prelude.{◌≡◌, ◌⊎◌, false, List, Option, Some, None, replicate, slice_set}
 use Rattle.event_log.specs.declared.ids.{BufId.BufId, CpuId.CpuId, LockId.LockId}
 use Rattle.event_log.specs.declared.ids.{LockId.TheVariants.Buffer, Tid.Tid, TheConstants.THREADS}
-use Rattle.layer_traits.specs.declared.locked.QEdit.TheVariants.{Acquire, Inside, Release}
-use Rattle.layer_traits.specs.declared.locked.QOut.{QOut, TheVariants.{Acquired, Queued, Did}}
-use Rattle.layer_traits.specs.declared.locked.{QOut.TheVariants.Released, Side.Side}
-use Rattle.layer_traits.specs.declared.conditions.{CvLeave.TheVariants.{Leave, Wait}, CvOut.CvOut}
+use Rattle.layer_traits.specs.declared.locked.QLockCall.TheVariants.{Acquire, Inside, Release}
+use Rattle.layer_traits.specs.declared.locked.QLockReply.{QLockReply, TheVariants.Acquired}
+use Rattle.layer_traits.specs.declared.locked.QLockReply.TheVariants.{Queued, Did, Released}
+use Rattle.layer_traits.specs.declared.{locked.Side.Side, conditions.CvLeave.TheVariants.Leave}
+use Rattle.layer_traits.specs.declared.conditions.{CvLeave.TheVariants.Wait, CvReply.CvReply}
 use Rattle.layer_traits.specs.declared.{moves.WaitList.WaitList, queues.QueueEvent.QueueEvent}
 use Rattle.layer_traits.specs.declared.queue_edits.{QueueAnswer.QueueAnswer, QueueEdit.QueueEdit}
 use Rattle.layer_traits.specs.declared.{passes.Pass.Pass, scheds.SchedCall.SchedCall}
@@ -20,12 +21,12 @@ use Rattle.layer_traits.specs.Layers.QLockLaw.{locking_at_start, slept_for, lock
 use Rattle.layer_traits.specs.{Layers.QLockLaw.lock_pass_plan, Threads.MoveRules.MoveRules}
 use Rattle.layer_traits.specs.Polling.Plans.{Left, Plan, Now, raised}
 use Rattle.thread_blocks.specs.Queues.{is_in}
-use Rattle.layer_traits.specs.declared.conditions.CvOut.TheVariants as answer
+use Rattle.layer_traits.specs.declared.conditions.CvReply.TheVariants as answer
 
 -- a CPU's private state: that of its queuing locks, and for each thread the buffer at which it
 -- waits, until its wait returns
 pub record Waiting (O : Type 0) : Type 0 where
-  pub lock : Locking (CvOut O)
+  pub lock : Locking (CvReply O)
   pub waits : List (Option BufId)
 
 -- at the start no thread waits
@@ -43,30 +44,31 @@ MayWait (Some at) under_way b call t may =
 
 -- a call may be polled: its caller runs here, and it continues or may begin
 pub record MayCallCond {G B O : Type 0} (monitor_rules : MonitorRules G B O)
-    (k : Kernel (CvCall G) (LockState B) (Outcome (QOut (CvOut O)))) (c : CpuId)
-    (past : List (QueueEvent (CvCall G))) (own : Waiting O)
+    (k : Kernel (CvCall G) (LockState B) (Outcome (QLockReply (CvReply O)))) (c : CpuId)
+    (past : List (QueueEvent (CvCall G))) (local : Waiting O)
     (under_way : Option (SchedCall (CvCall G))) (b : BufId) (call : CvCall G) : Type 0 where
-  pub runs : own.lock.sleep.threads.current ≡ Some (lock_caller (cv_rules monitor_rules) call)
-  pub may : MayWait (slept_for own.waits (lock_caller (cv_rules monitor_rules) call)) under_way b
+  pub runs : local.lock.sleep.threads.current ≡ Some (lock_caller (cv_rules monitor_rules) call)
+  pub may : MayWait (slept_for local.waits (lock_caller (cv_rules monitor_rules) call)) under_way b
       call (lock_caller (cv_rules monitor_rules) call)
-      (MayGo (slept_for own.lock.slept (lock_caller (cv_rules monitor_rules) call)) under_way b call
+      (MayGo (slept_for local.lock.slept (lock_caller (cv_rules monitor_rules) call)) under_way b
+      call
       (lock_caller (cv_rules monitor_rules) call)
-      (MayLock (cv_rules monitor_rules) k c past own.lock.sleep.threads.hand b call))
+      (MayLock (cv_rules monitor_rules) k c past local.lock.sleep.threads.hand b call))
 
 -- the result of a wait on this side that is over
-abbrev pub waited : {O : Type 0} → Side → Outcome (QOut (CvOut O))
+abbrev pub waited : {O : Type 0} → Side → Outcome (QLockReply (CvReply O))
 waited side = record { out = Released (answer.Waited side); slept = false; woke = None }
 
 -- what a poll leaves: the state of the locks, which threads wait, and the result
-abbrev pub waiting_with : {O A : Type 0} → Locking (CvOut O) → List (Option BufId) → Option A
+abbrev pub waiting_with : {O A : Type 0} → Locking (CvReply O) → List (Option BufId) → Option A
     → Left (Waiting O) A
 waiting_with lock waits answer =
-    record { own = record { lock = lock; waits = waits }; answer = answer }
+    record { local = record { lock = lock; waits = waits }; answer = answer }
 
 -- the result of a release: after a wait it is deferred, and its caller waits at this buffer
-abbrev pub left_released : {O : Type 0} → Tid → BufId → List (Option BufId) → Locking (CvOut O)
-    → CvOut O → Outcome (QOut (CvOut O))
-    → Left (Waiting O) (Outcome (QOut (CvOut O)))
+abbrev pub left_released : {O : Type 0} → Tid → BufId → List (Option BufId) → Locking (CvReply O)
+    → CvReply O → Outcome (QLockReply (CvReply O))
+    → Left (Waiting O) (Outcome (QLockReply (CvReply O)))
 left_released t b waits lock (answer.Did out) outcome = waiting_with lock waits (Some outcome)
 left_released t b waits lock (answer.Signalled side front) outcome =
     waiting_with lock waits (Some outcome)
@@ -75,48 +77,49 @@ left_released t b waits lock (answer.Waited side) outcome =
     waiting_with lock (slice_set waits t.0 (Some b)) None
 
 -- what a poll leaves if the lock returned this
-abbrev pub waiting_reported : {O : Type 0} → Tid → BufId → List (Option BufId) → Locking (CvOut O)
-    → QOut (CvOut O) → Outcome (QOut (CvOut O))
-    → Left (Waiting O) (Outcome (QOut (CvOut O)))
+abbrev pub waiting_reported : {O : Type 0} → Tid → BufId → List (Option BufId) → Locking (CvReply O)
+    → QLockReply (CvReply O) → Outcome (QLockReply (CvReply O))
+    → Left (Waiting O) (Outcome (QLockReply (CvReply O)))
 waiting_reported t b waits lock Acquired outcome = waiting_with lock waits (Some outcome)
 waiting_reported t b waits lock Queued outcome = waiting_with lock waits (Some outcome)
 waiting_reported t b waits lock (Did out) outcome = waiting_with lock waits (Some outcome)
 waiting_reported t b waits lock (Released out) outcome = left_released t b waits lock out outcome
 
 -- what a poll leaves, from what the lock's poll left
-abbrev pub left_waiting : {O : Type 0} → Tid → BufId → List (Option BufId) → Locking (CvOut O)
-    → Option (Outcome (QOut (CvOut O)))
-    → Left (Waiting O) (Outcome (QOut (CvOut O)))
+abbrev pub left_waiting : {O : Type 0} → Tid → BufId → List (Option BufId) → Locking (CvReply O)
+    → Option (Outcome (QLockReply (CvReply O)))
+    → Left (Waiting O) (Outcome (QLockReply (CvReply O)))
 left_waiting t b waits lock None = waiting_with lock waits None
 left_waiting t b waits lock (Some outcome) = waiting_reported t b waits lock outcome.out outcome
 
 -- what a poll leaves if the caller was woken from its wait
-abbrev pub left_woken : {O : Type 0} → Tid → Side → List (Option BufId) → Locking (CvOut O)
-    → Left (Waiting O) (Outcome (QOut (CvOut O)))
+abbrev pub left_woken : {O : Type 0} → Tid → Side → List (Option BufId) → Locking (CvReply O)
+    → Left (Waiting O) (Outcome (QLockReply (CvReply O)))
 left_woken t side waits lock = waiting_with lock (slice_set waits t.0 None) (Some (waited side))
 
 -- a poll of a thread that does not wait is a poll of its lock
 pub record PollsItsLock {G B O : Type 0} (monitor_rules : MonitorRules G B O)
-    (k : Kernel (CvCall G) (LockState B) (Outcome (QOut (CvOut O)))) (ActsFor : CpuId
+    (k : Kernel (CvCall G) (LockState B) (Outcome (QLockReply (CvReply O)))) (ActsFor : CpuId
     → Type 0)
     (c : CpuId) (b : BufId) (call : CvCall G) (old new : List (QueueEvent (CvCall G)))
-    (own : Waiting O)
+    (local : Waiting O)
     (under_way : Option (SchedCall (CvCall G)))
-    (got : Left (Waiting O) (Outcome (QOut (CvOut O)))) : Type 0 where
-  pub left : Left (Locking (CvOut O)) (Outcome (QOut (CvOut O)))
+    (got : Left (Waiting O) (Outcome (QLockReply (CvReply O)))) : Type 0 where
+  pub left : Left (Locking (CvReply O)) (Outcome (QLockReply (CvReply O)))
   pub polled : LockPolled (cv_rules monitor_rules) k ActsFor c b call
-      (slept_for own.lock.slept (lock_caller
-      (cv_rules monitor_rules) call)) old new own.lock under_way left
-  pub leaves : got ≡ left_waiting (lock_caller (cv_rules monitor_rules) call) b own.waits left.own
+      (slept_for local.lock.slept (lock_caller
+      (cv_rules monitor_rules) call)) old new local.lock under_way left
+  pub leaves : got ≡ left_waiting (lock_caller (cv_rules monitor_rules) call) b local.waits
+      left.local
       left.answer
 
 -- a poll of a thread that waited only returns: the thread is in no waiting list of the buffer any
 -- more
 pub record WaitOver {G B O : Type 0} (monitor_rules : MonitorRules G B O)
     (opening : LockId → Option (LockState B)) (b : BufId) (call : CvCall G)
-    (old : List (QueueEvent (CvCall G))) (own : Waiting O)
+    (old : List (QueueEvent (CvCall G))) (local : Waiting O)
     (under_way : Option (SchedCall (CvCall G)))
-    (got : Left (Waiting O) (Outcome (QOut (CvOut O)))) : Type 0 where
+    (got : Left (Waiting O) (Outcome (QLockReply (CvReply O)))) : Type 0 where
   pub side : Side
   pub is : call ≡ Release (Wait (lock_caller (cv_rules monitor_rules) call) side)
   pub left : (line : WaitList)
@@ -124,56 +127,60 @@ pub record WaitOver {G B O : Type 0} (monitor_rules : MonitorRules G B O)
       (wait_list_in line (lock_after (cv_rules monitor_rules) opening (Buffer b)
       (buffer_sections old))) ≡ false
   pub ends : under_way ≡ None
-  pub leaves : got ≡ left_woken (lock_caller (cv_rules monitor_rules) call) side own.waits own.lock
+  pub leaves : got ≡ left_woken (lock_caller (cv_rules monitor_rules) call) side local.waits
+      local.lock
 
 -- a poll of a call, by case on the buffer at which its caller waits
 abbrev pub CvPolled : {G B O : Type 0} → MonitorRules G B O
-    → Kernel (CvCall G) (LockState B) (Outcome (QOut (CvOut O))) → (CpuId → Type 0) → CpuId → BufId
+    → Kernel (CvCall G) (LockState B) (Outcome (QLockReply (CvReply O))) → (CpuId → Type 0) → CpuId
+    → BufId
     → CvCall G → Option BufId → List (QueueEvent (CvCall G)) → List (QueueEvent (CvCall G))
     → Waiting O → Option (SchedCall (CvCall G))
-    → Left (Waiting O) (Outcome (QOut (CvOut O))) → Type 0
-CvPolled monitor_rules k ActsFor c b call None old new own under_way got =
-    PollsItsLock monitor_rules k ActsFor c b call old new own under_way got
-CvPolled monitor_rules k ActsFor c b call (Some at) old new own under_way got =
-    WaitOver monitor_rules k.opening b call old own under_way got
+    → Left (Waiting O) (Outcome (QLockReply (CvReply O))) → Type 0
+CvPolled monitor_rules k ActsFor c b call None old new local under_way got =
+    PollsItsLock monitor_rules k ActsFor c b call old new local under_way got
+CvPolled monitor_rules k ActsFor c b call (Some at) old new local under_way got =
+    WaitOver monitor_rules k.opening b call old local under_way got
 
 -- what the return of a wait leaves; a thread that waited makes no other call
 abbrev pub left_over : {G O : Type 0} → Tid → CvCall G → Waiting O
-    → Left (Waiting O) (Outcome (QOut (CvOut O)))
-left_over t (Acquire u) own = waiting_with own.lock own.waits None
-left_over t (Inside e) own = waiting_with own.lock own.waits None
-left_over t (Release (Leave u)) own = waiting_with own.lock own.waits None
-left_over t (Release (Wait u side)) own = left_woken t side own.waits own.lock
+    → Left (Waiting O) (Outcome (QLockReply (CvReply O)))
+left_over t (Acquire u) local = waiting_with local.lock local.waits None
+left_over t (Inside e) local = waiting_with local.lock local.waits None
+left_over t (Release (Leave u)) local = waiting_with local.lock local.waits None
+left_over t (Release (Wait u side)) local = left_woken t side local.waits local.lock
 
 -- the plan of a call, by case on the buffer at which its caller waits
-abbrev pub cv_plan_for : {G O : Type 0} → MoveRules (CvCall G) (Outcome (QOut (CvOut O)))
+abbrev pub cv_plan_for : {G O : Type 0} → MoveRules (CvCall G) (Outcome (QLockReply (CvReply O)))
     → List CpuId → CpuId → BufId → CvCall G → Waiting O → Option BufId
-    → Plan (QueueEdit (CvCall G)) (QueueAnswer (Outcome (QOut (CvOut O)))) (Waiting O)
-    (Outcome (QOut (CvOut O)))
-cv_plan_for mv homes c b call own None =
-    raised (λ l. left_waiting (mv.caller call) b own.waits l.own l.answer)
-    (lock_plan mv homes c b call own.lock)
-cv_plan_for mv homes c b call own (Some at) = Now (left_over (mv.caller call) call own)
+    → Plan (QueueEdit (CvCall G)) (QueueAnswer (Outcome (QLockReply (CvReply O)))) (Waiting O)
+    (Outcome (QLockReply (CvReply O)))
+cv_plan_for mv homes c b call local None =
+    raised (λ l. left_waiting (mv.caller call) b local.waits l.local l.answer)
+    (lock_plan mv homes c b call local.lock)
+cv_plan_for mv homes c b call local (Some at) = Now (left_over (mv.caller call) call local)
 
 -- the plan of a call
-abbrev pub cv_plan : {G O : Type 0} → MoveRules (CvCall G) (Outcome (QOut (CvOut O))) → List CpuId
+abbrev pub cv_plan : {G O : Type 0} → MoveRules (CvCall G) (Outcome (QLockReply (CvReply O)))
+    → List CpuId
     → CpuId → BufId → CvCall G → Waiting O
-    → Plan (QueueEdit (CvCall G)) (QueueAnswer (Outcome (QOut (CvOut O)))) (Waiting O)
-    (Outcome (QOut (CvOut O)))
-cv_plan mv homes c b call own =
-    cv_plan_for mv homes c b call own (slept_for own.waits (mv.caller call))
+    → Plan (QueueEdit (CvCall G)) (QueueAnswer (Outcome (QLockReply (CvReply O)))) (Waiting O)
+    (Outcome (QLockReply (CvReply O)))
+cv_plan mv homes c b call local =
+    cv_plan_for mv homes c b call local (slept_for local.waits (mv.caller call))
 
 -- a pass leaves the waiting threads unchanged
-abbrev pub waits_passed : {O A : Type 0} → List (Option BufId) → Left (Locking (CvOut O)) A
+abbrev pub waits_passed : {O A : Type 0} → List (Option BufId) → Left (Locking (CvReply O)) A
     → Left (Waiting O) A
-waits_passed waits l = waiting_with l.own waits l.answer
+waits_passed waits l = waiting_with l.local waits l.answer
 
 -- the plan of a pass
-abbrev pub cv_pass_plan : {G O : Type 0} → MoveRules (CvCall G) (Outcome (QOut (CvOut O)))
+abbrev pub cv_pass_plan : {G O : Type 0} → MoveRules (CvCall G) (Outcome (QLockReply (CvReply O)))
     → List CpuId → CpuId → Pass → Waiting O
-    → Plan (QueueEdit (CvCall G)) (QueueAnswer (Outcome (QOut (CvOut O)))) (Waiting O) (Unit {0})
-cv_pass_plan mv homes c p own =
-    raised (waits_passed own.waits) (lock_pass_plan mv homes c p own.lock)
+    → Plan (QueueEdit (CvCall G)) (QueueAnswer (Outcome (QLockReply (CvReply O)))) (Waiting O)
+    (Unit {0})
+cv_pass_plan mv homes c p local =
+    raised (waits_passed local.waits) (lock_pass_plan mv homes c p local.lock)
 
 -- why a machine that does a whole section in one poll returns no result: its lock returns none, or
 -- its caller now waits

@@ -32,10 +32,10 @@ pub record NothingDone {M P : Type 0} (old new : M) (before after : P)
 
 -- the plan of a call, with so many buffers
 abbrev pub ipc_plan : ℕ → List CpuId → CpuId → Tid → Call → Buffering → BufferPlan Reply
-ipc_plan buffers homes c t call own =
+ipc_plan buffers homes c t call local =
     if nat_lt (buffer_of call).0 buffers
-    then fifo_plan homes c t call own
-    else Now (record { own = own; answer = Some NoBuffer })
+    then fifo_plan homes c t call local
+    else Now (record { local = local; answer = Some NoBuffer })
 
 -- the opening blocks, as far as a machine shows them. A fresh lock is over an empty buffer of each
 -- capacity. There is an empty queue for this CPU and for each thread's home

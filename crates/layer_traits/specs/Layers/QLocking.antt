@@ -2,9 +2,10 @@
 -- a function of the history.
 use Rattle.std.specs.Prelude.{◌≡◌, ◌≢◌, List, [], Option, Some, None, is_some, if◌then◌else◌}
 use Rattle.event_log.specs.{declared.ids.{LockId.LockId, Tid.Tid}, Sections.{Section, block_after}}
-use Rattle.layer_traits.specs.declared.locked.QEdit.{QEdit, TheVariants.{Acquire, Inside, Release}}
-use Rattle.layer_traits.specs.declared.locked.QOut.{QOut, TheVariants.{Acquired, Queued, Did}}
-use Rattle.layer_traits.specs.declared.locked.{QOut.TheVariants.Released, Side.Side}
+use Rattle.layer_traits.specs.declared.locked.QLockCall.{QLockCall, TheVariants.{Acquire, Inside}}
+use Rattle.layer_traits.specs.declared.locked.{QLockCall.TheVariants.Release, QLockReply.QLockReply}
+use Rattle.layer_traits.specs.declared.locked.QLockReply.TheVariants.{Acquired, Queued, Did}
+use Rattle.layer_traits.specs.declared.locked.{QLockReply.TheVariants.Released, Side.Side}
 use Rattle.layer_traits.specs.declared.locked.Side.TheVariants.{Receivers, Senders}
 use Rattle.layer_traits.specs.declared.locked.WakeWaiter.{WakeWaiter, TheVariants.Nobody}
 use Rattle.layer_traits.specs.declared.locked.WakeWaiter.TheVariants.{Receiver, Sender}
@@ -39,7 +40,8 @@ pub record LockRules (F R B O : Type 0) : Type 1 where
   pub last_edited : R → B → B
   pub last_answer : R → B → O
   pub waits : O → Option Side
-  pub allowed : (LockId → Option (LockState B)) → List (Section (QEdit F R)) → Section (QEdit F R)
+  pub allowed : (LockId → Option (LockState B)) → List (Section (QLockCall F R))
+      → Section (QLockCall F R)
       → Type 0
 
 -- the list of this side, if a caller waits on that side
@@ -84,7 +86,7 @@ lock_asked_by t (Some owner) state = record {
 }
 
 -- its result
-abbrev pub asker_report : {O : Type 0} → Option Tid → QOut O
+abbrev pub asker_report : {O : Type 0} → Option Tid → QLockReply O
 asker_report None = Acquired
 asker_report (Some owner) = Queued
 
@@ -99,58 +101,60 @@ wait_list_for None = None
 wait_list_for (Some Receivers) = Some wait_list.Receivers
 wait_list_for (Some Senders) = Some wait_list.Senders
 
-module _ {F R B O : Type 0} (rules : LockRules F R B O) where
+module _ {F R B O : Type 0} (protocol : LockRules F R B O) where
   -- the calling thread
-  abbrev pub lock_caller : QEdit F R → Tid
+  abbrev pub lock_caller : QLockCall F R → Tid
   lock_caller (Acquire t) = t
-  lock_caller (Inside f) = rules.caller f
-  lock_caller (Release r) = rules.last_caller r
+  lock_caller (Inside f) = protocol.caller f
+  lock_caller (Release r) = protocol.last_caller r
 
   -- the lock after a call. A Release does in one event its last edit, names the next owner, and
   -- lets its caller wait
-  abbrev pub lock_edited : QEdit F R → LockState B → LockState B
+  abbrev pub lock_edited : QLockCall F R → LockState B → LockState B
   lock_edited (Acquire t) state = lock_asked_by t state.owner state
   lock_edited (Inside f) state = record {
     owner = state.owner;
     sleepers = state.sleepers;
     receivers =
-        waiting_without Receivers (rules.signals (rules.answer f state.above)) state.receivers;
-    senders = waiting_without Senders (rules.signals (rules.answer f state.above)) state.senders;
-    above = rules.edited f state.above;
+        waiting_without Receivers (protocol.signals (protocol.answer f state.above))
+        state.receivers;
+    senders =
+        waiting_without Senders (protocol.signals (protocol.answer f state.above)) state.senders;
+    above = protocol.edited f state.above;
   }
   lock_edited (Release r) state = record {
     owner = first state.sleepers;
     sleepers = rest state.sleepers;
     receivers =
-        list_with_waiter Receivers (rules.waits (rules.last_answer r state.above))
-        (rules.last_caller r) state.receivers;
+        list_with_waiter Receivers (protocol.waits (protocol.last_answer r state.above))
+        (protocol.last_caller r) state.receivers;
     senders =
-        list_with_waiter Senders (rules.waits (rules.last_answer r state.above))
-        (rules.last_caller r) state.senders;
-    above = rules.last_edited r state.above;
+        list_with_waiter Senders (protocol.waits (protocol.last_answer r state.above))
+        (protocol.last_caller r) state.senders;
+    above = protocol.last_edited r state.above;
   }
 
   -- which list the caller joins
-  abbrev pub lock_slept : QEdit F R → LockState B → Option WaitList
+  abbrev pub lock_slept : QLockCall F R → LockState B → Option WaitList
   lock_slept (Acquire t) state = wait_list_asked state.owner
   lock_slept (Inside f) state = None
-  lock_slept (Release r) state = wait_list_for (rules.waits (rules.last_answer r state.above))
+  lock_slept (Release r) state = wait_list_for (protocol.waits (protocol.last_answer r state.above))
 
   -- which thread a call wakes
-  abbrev pub lock_woke : QEdit F R → LockState B → Option Tid
+  abbrev pub lock_woke : QLockCall F R → LockState B → Option Tid
   lock_woke (Acquire t) state = None
   lock_woke (Inside f) state =
-      signalled (rules.signals (rules.answer f state.above)) state.receivers state.senders
+      signalled (protocol.signals (protocol.answer f state.above)) state.receivers state.senders
   lock_woke (Release r) state = first state.sleepers
 
   -- a call's result, without its outcome
-  abbrev pub lock_out : QEdit F R → LockState B → QOut O
+  abbrev pub lock_out : QLockCall F R → LockState B → QLockReply O
   lock_out (Acquire t) state = asker_report state.owner
-  lock_out (Inside f) state = Did (rules.answer f state.above)
-  lock_out (Release r) state = Released (rules.last_answer r state.above)
+  lock_out (Inside f) state = Did (protocol.answer f state.above)
+  lock_out (Release r) state = Released (protocol.last_answer r state.above)
 
   -- a call's outcome
-  abbrev pub lock_answer : QEdit F R → LockState B → Outcome (QOut O)
+  abbrev pub lock_answer : QLockCall F R → LockState B → Outcome (QLockReply O)
   lock_answer e state =
       record {
         out = lock_out e state;
@@ -159,48 +163,52 @@ module _ {F R B O : Type 0} (rules : LockRules F R B O) where
       }
 
   -- which list a caller with this result joined
-  abbrev pub wait_list_slept : QOut O → Option WaitList
+  abbrev pub wait_list_slept : QLockReply O → Option WaitList
   wait_list_slept Acquired = None
   wait_list_slept Queued = Some wait_list.Sleepers
   wait_list_slept (Did out) = None
-  wait_list_slept (Released out) = wait_list_for (rules.waits out)
+  wait_list_slept (Released out) = wait_list_for (protocol.waits out)
 
   -- a lock after these calls
-  abbrev pub lock_after : (LockId → Option (LockState B)) → LockId → List (Section (QEdit F R))
+  abbrev pub lock_after : (LockId → Option (LockState B)) → LockId → List (Section (QLockCall F R))
       → Option (LockState B)
   lock_after opening lock past = block_after lock_edited opening lock past
 
   -- a call is the owner's; an Acquire is not
-  abbrev pub IsOwners : QEdit F R → Option Tid → Type 0
+  abbrev pub IsOwners : QLockCall F R → Option Tid → Type 0
   IsOwners (Acquire t) owner = owner ≢ Some t
-  IsOwners (Inside f) owner = owner ≡ Some (rules.caller f)
-  IsOwners (Release r) owner = owner ≡ Some (rules.last_caller r)
+  IsOwners (Inside f) owner = owner ≡ Some (protocol.caller f)
+  IsOwners (Release r) owner = owner ≡ Some (protocol.last_caller r)
 
   -- the owner of a lock: a function of the history only, so that there is at most one
-  abbrev pub owner_of : (LockId → Option (LockState B)) → List (Section (QEdit F R)) → LockId
+  abbrev pub owner_of : (LockId → Option (LockState B)) → List (Section (QLockCall F R)) → LockId
       → Option Tid
   owner_of opening past lock = owner_in (lock_after opening lock past)
 
 -- a call keeps the protocol: it is the owner's, and the edits above allow it
-pub record LockAllowed {F R B O : Type 0} (rules : LockRules F R B O)
-    (opening : LockId → Option (LockState B)) (past : List (Section (QEdit F R)))
-    (s : Section (QEdit F R)) : Type 0 where
-  pub owners : IsOwners rules s.edit (owner_of rules opening past s.lock)
-  pub granted : rules.allowed opening past s
+pub record LockAllowed {F R B O : Type 0} (protocol : LockRules F R B O)
+    (opening : LockId → Option (LockState B)) (past : List (Section (QLockCall F R)))
+    (s : Section (QLockCall F R)) : Type 0 where
+  pub owners : IsOwners protocol s.edit (owner_of protocol opening past s.lock)
+  pub granted : protocol.allowed opening past s
 
 -- what the calls on a queuing lock mean
 abbrev pub lock_rules : {F R B O : Type 0} → LockRules F R B O
-    → Rules (QEdit F R) (LockState B) (Outcome (QOut O))
-lock_rules rules =
-    record { edited = lock_edited rules; answer = lock_answer rules; allowed = LockAllowed rules }
+    → Rules (QLockCall F R) (LockState B) (Outcome (QLockReply O))
+lock_rules protocol =
+    record {
+      edited = lock_edited protocol;
+      answer = lock_answer protocol;
+      allowed = LockAllowed protocol;
+    }
 
 -- how they move threads
 abbrev pub lock_moves : {F R B O : Type 0} → LockRules F R B O
-    → MoveRules (QEdit F R) (Outcome (QOut O))
-lock_moves rules =
+    → MoveRules (QLockCall F R) (Outcome (QLockReply O))
+lock_moves protocol =
     record {
-      caller = lock_caller rules;
-      slept = λ outcome. wait_list_slept rules outcome.out;
+      caller = lock_caller protocol;
+      slept = λ outcome. wait_list_slept protocol outcome.out;
       woke = λ outcome. outcome.woke;
     }
 

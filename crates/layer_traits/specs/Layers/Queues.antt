@@ -22,7 +22,7 @@ use Rattle.layer_traits.specs.declared.queue_edits.QueueEdit.TheVariants as edit
 -- the layer above shared queues: what its edits mean and what they do to places, its opening
 -- blocks, and the homes of all threads
 pub record Kernel (E B O : Type 0) : Type 1 where
-  pub rules : Rules E B O
+  pub protocol : Rules E B O
   pub moves : MoveRules E O
   pub opening : LockId → Option B
   pub homes : List CpuId
@@ -30,8 +30,8 @@ pub record Kernel (E B O : Type 0) : Type 1 where
 -- the layer above with this opening
 abbrev pub kernel : {E B O : Type 0} → Rules E B O → MoveRules E O
     → (LockId → Option (QueueBlock B)) → Kernel E B O
-kernel rules moves opening =
-    record { rules = rules; moves = moves; opening = inner opening; homes = homes_in opening }
+kernel protocol moves opening =
+    record { protocol = protocol; moves = moves; opening = inner opening; homes = homes_in opening }
 
 -- this call of this CPU
 abbrev pub event : {E : Type 0} → CpuId → QueueCall E → QueueEvent E
@@ -55,8 +55,8 @@ buffer_sections (e ∷ past) = with_section e.cpu e.call (buffer_sections past)
 -- the result of this edit of this buffer's block after these events
 abbrev pub out_at : {E B O : Type 0} → Kernel E B O → List (QueueEvent E) → BufId → E → Option O
 out_at k past b e =
-    option_map (k.rules.answer e)
-    (block_after k.rules.edited k.opening (Buffer b) (buffer_sections past))
+    option_map (k.protocol.answer e)
+    (block_after k.protocol.edited k.opening (Buffer b) (buffer_sections past))
 
 -- the move of a call after these events
 abbrev pub call_move : {E B O : Type 0} → Kernel E B O → List (QueueEvent E) → QueueCall E → Move
@@ -74,7 +74,7 @@ moves_in k (e ∷ past) = step_with e.cpu (call_move k past e.call) ∷ moves_in
 pub record BufferAllowed {E B O : Type 0} (k : Kernel E B O) (past : List (QueueEvent E))
     (c : CpuId) (b : BufId) (e : E) : Type 0 where
   pub caller : MayEditFor k.homes (moves_in k past) c (k.moves.caller e)
-  pub upper : k.rules.allowed k.opening (buffer_sections past) (section c (Buffer b) e)
+  pub upper : k.protocol.allowed k.opening (buffer_sections past) (section c (Buffer b) e)
 
 -- a call of a CPU is allowed after these events. It pushes the thread in its hand into the queue of
 -- that thread's home, takes only its own queue, and edits as is allowed

@@ -21,7 +21,7 @@ use Rattle.layer_traits.specs.declared.scheds.SchedCall.TheVariants as call
 -- all definitions of what the sections of a sleeping layer mean
 abbrev pub sleep_kernel : {E B O : Type 0} → SleepRules E B O
     → (LockId → Option (QueueBlock (SleepState B))) → Kernel E (SleepState B) (Outcome O)
-sleep_kernel rules opening = kernel (sleep_rules rules) (sleep_moves rules) opening
+sleep_kernel protocol opening = kernel (sleep_rules protocol) (sleep_moves protocol) opening
 
 -- a part's private state: its threads, and the deferred outcome, that of a section that returns
 -- once the thread which it woke has left the hand
@@ -32,9 +32,9 @@ pub record Sleeping (O : Type 0) : Type 0 where
 -- a section may begin: its caller runs here, the CPU's hand is empty, and it is allowed and stays
 -- so
 pub record MaySleep {E B O : Type 0} (k : Kernel E B O) (c : CpuId) (past : List (QueueEvent E))
-    (own : Threads) (b : BufId) (e : E) : Type 0 where
-  pub current : own.current ≡ Some (k.moves.caller e)
-  pub hand : own.hand ≡ None
+    (local : Threads) (b : BufId) (e : E) : Type 0 where
+  pub current : local.current ≡ Some (k.moves.caller e)
+  pub hand : local.hand ≡ None
   pub stays : EditStays k c past (call.OnBuffer b e)
 
 -- a call may be polled: the first poll owes this duty, and after that it is the same call
@@ -51,22 +51,22 @@ pub data PollResult (O : Type 0) : Type 0 where
 
 -- the caller continues, and a thread in the hand must first be forwarded to its home CPU
 abbrev pub must_send : {O : Type 0} → Outcome O → Threads → Bool
-must_send outcome own = not outcome.slept && is_some own.hand
+must_send outcome local = not outcome.slept && is_some local.hand
 
 -- what a section leaves if it was done with this outcome, and the threads are now these
 abbrev pub left_done : {O : Type 0} → Outcome O → Threads → Left (Sleeping O) (Outcome O)
 left_done outcome threads =
     if must_send outcome threads
-    then record { own = record { threads = threads; deferred = Some outcome }; answer = None }
-    else record { own = record { threads = threads; deferred = None }; answer = Some outcome }
+    then record { local = record { threads = threads; deferred = Some outcome }; answer = None }
+    else record { local = record { threads = threads; deferred = None }; answer = Some outcome }
 
 module _ {E B O : Type 0} (k : Kernel E B (Outcome O)) (c : CpuId) (b : BufId) (e : E) where
   -- a poll result may follow this past: a section if none has been done yet, with its outcome
   -- there. A thread is forwarded from the hand once its section is done
   abbrev pub MayDo : PollResult O → List (QueueEvent E) → Sleeping O → Type 0
-  MayDo WaitsStill past own = Unit {0}
-  MayDo (Does outcome) past own = (own.deferred ≡ None) × (out_at k past b e ≡ Some outcome)
-  MayDo (SendsHome t) past own = IsSome own.deferred × (own.threads.hand ≡ Some t)
+  MayDo WaitsStill past local = Unit {0}
+  MayDo (Does outcome) past local = (local.deferred ≡ None) × (out_at k past b e ≡ Some outcome)
+  MayDo (SendsHome t) past local = IsSome local.deferred × (local.threads.hand ≡ Some t)
 
   -- the history with a poll result
   abbrev pub seen_with : PollResult O → List (QueueEvent E) → List (QueueEvent E)
@@ -76,27 +76,28 @@ module _ {E B O : Type 0} (k : Kernel E B (Outcome O)) (c : CpuId) (b : BufId) (
 
   -- what a poll result leaves
   abbrev pub left_with : PollResult O → Sleeping O → Left (Sleeping O) (Outcome O)
-  left_with WaitsStill own = record { own = own; answer = None }
-  left_with (Does outcome) own =
-      left_done outcome (own_answered k.moves k.homes c (Some outcome) own.threads)
-  left_with (SendsHome t) own =
+  left_with WaitsStill local = record { local = local; answer = None }
+  left_with (Does outcome) local =
+      left_done outcome (own_answered k.moves k.homes c (Some outcome) local.threads)
+  left_with (SendsHome t) local =
       record {
-        own = record { threads = passed_on own.threads; deferred = None };
-        answer = own.deferred;
+        local = record { threads = passed_on local.threads; deferred = None };
+        answer = local.deferred;
       }
 
 -- a poll of a section: environment events are first, then at most one poll result, which leaves
 -- this
 pub record SleepPolled {E B O : Type 0} (k : Kernel E B (Outcome O)) (ActsFor : CpuId → Type 0)
     (c : CpuId) (b : BufId) (e : E)
-    (old new : List (QueueEvent E)) (own : Sleeping O) (got : Left (Sleeping O) (Outcome O)) : Type
+    (old new : List (QueueEvent E)) (local : Sleeping O)
+    (got : Left (Sleeping O) (Outcome O)) : Type
     0 where
   pub others : List (QueueEvent E)
   pub foreign : AreForeign ActsFor cpu_of_queue_event others
   pub poll_result : PollResult O
-  pub may : MayDo k c b e poll_result (others ++ old) own
+  pub may : MayDo k c b e poll_result (others ++ old) local
   pub is : new ≡ seen_with k c b e poll_result (others ++ old)
-  pub leaves : got ≡ left_with k c b e poll_result own
+  pub leaves : got ≡ left_with k c b e poll_result local
 
 -- the call on the scheduler that is due, according to the hand
 abbrev pub due : {E : Type 0} → Option Tid → BufId → E → SchedCall E
@@ -107,18 +108,18 @@ due (Some t) b e = call.Pass (MakeReady t)
 abbrev pub left_reported : {O : Type 0} → Option (Outcome O) → Threads
     → Option (SchedAnswer (Outcome O)) → Left (Sleeping O) (Outcome O)
 left_reported deferred threads None =
-    record { own = record { threads = threads; deferred = deferred }; answer = None }
+    record { local = record { threads = threads; deferred = deferred }; answer = None }
 left_reported deferred threads (Some Done) =
-    record { own = record { threads = threads; deferred = None }; answer = deferred }
+    record { local = record { threads = threads; deferred = None }; answer = deferred }
 left_reported deferred threads (Some (Answer outcome)) = left_done outcome threads
 
 -- the plan of a section's poll: that of the call which is due on the scheduler
 abbrev pub sleep_plan : {E O : Type 0} → MoveRules E (Outcome O) → List CpuId → CpuId → BufId → E
     → Sleeping O
     → Plan (QueueEdit E) (QueueAnswer (Outcome O)) (Sleeping O) (Outcome O)
-sleep_plan mv homes c b e own =
-    raised (λ l. left_reported own.deferred l.own l.answer)
-    (sched_plan mv homes c (due own.threads.hand b e) own.threads)
+sleep_plan mv homes c b e local =
+    raised (λ l. left_reported local.deferred l.local l.answer)
+    (sched_plan mv homes c (due local.threads.hand b e) local.threads)
 
 -- the scheduler's result of a call that is passed down
 abbrev pub done_if : {O : Type 0} → Option (Unit {0}) → Option (SchedAnswer O)
@@ -129,7 +130,7 @@ abbrev pub left_passed : {O A : Type 0} → Option (Outcome O) → Left Threads 
     → Left (Sleeping O) (Unit {0})
 left_passed deferred l =
     record {
-      own = record { threads = l.own; deferred = deferred };
+      local = record { threads = l.local; deferred = deferred };
       answer = option_map (λ a. tt) l.answer;
     }
 
@@ -137,8 +138,8 @@ left_passed deferred l =
 abbrev pub pass_plan : {E O : Type 0} → MoveRules E (Outcome O) → List CpuId → CpuId → Pass
     → Sleeping O
     → Plan (QueueEdit E) (QueueAnswer (Outcome O)) (Sleeping O) (Unit {0})
-pass_plan mv homes c p own =
-    raised (left_passed own.deferred) (sched_plan mv homes c (call.Pass p) own.threads)
+pass_plan mv homes c p local =
+    raised (left_passed local.deferred) (sched_plan mv homes c (call.Pass p) local.threads)
 
 -- why the poll of a whole machine returns no result: the section was done in it, and its woken
 -- thread must now be forwarded to its home CPU

@@ -81,16 +81,16 @@ abbrev pub wait_list_at : {B : Type 0} → WaitList → Option (SleepState B) �
 wait_list_at line None = []
 wait_list_at line (Some state) = wait_list_of line state
 
-module _ {E B O : Type 0} (rules : SleepRules E B O) where
+module _ {E B O : Type 0} (protocol : SleepRules E B O) where
   -- the result of the edit above
   abbrev pub answer_above : E → SleepState B → O
-  answer_above e state = rules.answer e (first state.sleepers) state.above
+  answer_above e state = protocol.answer e (first state.sleepers) state.above
 
   -- this waiting list after a section: the thread that leaves has left, and then the caller joins
   abbrev pub wait_list_after : WaitList → E → SleepState B → List Tid → List Tid
   wait_list_after line e state queue =
-      wait_list_joined line (rules.joins (answer_above e state)) (rules.caller e)
-      (left line (rules.leaves (answer_above e state)) queue)
+      wait_list_joined line (protocol.joins (answer_above e state)) (protocol.caller e)
+      (left line (protocol.leaves (answer_above e state)) queue)
 
   -- the block that a section leaves
   abbrev pub sleep_edited : E → SleepState B → SleepState B
@@ -98,43 +98,43 @@ module _ {E B O : Type 0} (rules : SleepRules E B O) where
     sleepers = wait_list_after Sleepers e state state.sleepers;
     receivers = wait_list_after Receivers e state state.receivers;
     senders = wait_list_after Senders e state state.senders;
-    above = rules.edited e (first state.sleepers) state.above;
+    above = protocol.edited e (first state.sleepers) state.above;
   }
 
   -- which thread a section wakes
   abbrev pub sleep_woke : E → SleepState B → Option Tid
   sleep_woke e state =
-      woken_by (rules.leaves (answer_above e state)) state.sleepers state.receivers state.senders
+      woken_by (protocol.leaves (answer_above e state)) state.sleepers state.receivers state.senders
 
   -- a section's outcome
   abbrev pub sleep_answer : E → SleepState B → Outcome O
   sleep_answer e state = record {
     out = answer_above e state;
-    slept = is_some (rules.joins (answer_above e state));
+    slept = is_some (protocol.joins (answer_above e state));
     woke = sleep_woke e state;
   }
 
   -- what the sections of a sleeping layer mean
   abbrev pub sleep_rules : Rules E (SleepState B) (Outcome O)
-  sleep_rules = record { edited = sleep_edited; answer = sleep_answer; allowed = rules.allowed }
+  sleep_rules = record { edited = sleep_edited; answer = sleep_answer; allowed = protocol.allowed }
 
   -- how they move threads
   abbrev pub sleep_moves : MoveRules E (Outcome O)
   sleep_moves =
       record {
-        caller = rules.caller;
-        slept = λ outcome. rules.joins outcome.out;
+        caller = protocol.caller;
+        slept = λ outcome. protocol.joins outcome.out;
         woke = λ outcome. outcome.woke;
       }
 
 -- no lock's waiting lists hold a thread
-abbrev pub NobodySleeps : {B : Type 0} → (LockId → Option (SleepState B)) → Type 0
-NobodySleeps opening = (lock : LockId) (line : WaitList) → wait_list_at line (opening lock) ≡ []
+abbrev pub NoSleepers : {B : Type 0} → (LockId → Option (SleepState B)) → Type 0
+NoSleepers opening = (lock : LockId) (line : WaitList) → wait_list_at line (opening lock) ≡ []
 
 -- the caller of a section is a thread of the machine and does not sleep after these sections
-pub record IsAwake {E B O : Type 0} (rules : SleepRules E B O)
+pub record IsAwake {E B O : Type 0} (protocol : SleepRules E B O)
     (opening : LockId → Option (SleepState B))
     (past : List (Section E)) (s : Section E) : Type 0 where
-  pub awake : asleep_by (section_moves (sleep_rules rules) (sleep_moves rules) opening past)
-      (rules.caller s.edit) ≡ None
-  pub small : (rules.caller s.edit).0 < THREADS
+  pub awake : asleep_by (section_moves (sleep_rules protocol) (sleep_moves protocol) opening past)
+      (protocol.caller s.edit) ≡ None
+  pub small : (protocol.caller s.edit).0 < THREADS

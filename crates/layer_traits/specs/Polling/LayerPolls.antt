@@ -12,35 +12,40 @@ module _ {P L M : Type 0} (I : Ghosts P L M)
   -- polled
   abbrev pub LookedAt : Bool → P → M → P → M → Type 0
   LookedAt =
-      Looked I.Fits I.cpu_of I.opening I.site I.room I.ActsFor I.MayHold I.own I.is_inside
-      I.under_way I.seen
+      Looked I.Coupled I.cpu_of I.opening I.machine_id I.room I.ActsFor I.MayHold I.local
+      I.is_inside
+      I.under_way I.history
       I.moves I.acts I.IsWhole I.IsStepwise plan
 
   -- and so did such polls, with so many actions taken before them and after
   abbrev pub LookedOnAt : P → M → ℕ → ℕ → P → M → Type 0
   LookedOnAt =
-      LookedOn I.Fits I.cpu_of I.opening I.site I.room I.ActsFor I.MayHold I.own I.is_inside
-      I.under_way I.seen
+      LookedOn I.Coupled I.cpu_of I.opening I.machine_id I.room I.ActsFor I.MayHold I.local
+      I.is_inside
+      I.under_way I.history
       I.moves I.acts I.IsWhole I.IsStepwise plan
 
   -- and so did a poll of this call, which returned this kind
   abbrev pub PolledAt : Tid → Call → P → M → P → M → Option ReplyKind → Type 0
-  PolledAt t call p m q n told =
-      Polled I.Fits I.cpu_of I.opening I.site I.room I.ActsFor I.MayHold I.own I.is_inside
-      I.under_way I.seen
+  PolledAt t call p m q n abstract_answer =
+      Polled I.Coupled I.cpu_of I.opening I.machine_id I.room I.ActsFor I.MayHold I.local
+      I.is_inside
+      I.under_way I.history
       I.moves I.acts I.IsWhole I.IsStepwise plan t call p m q n
-      (answer_in (I.own q).call_states t told)
+      (answer_in (I.local q).call_states t abstract_answer)
 
   -- the call has had no effect since the first part, and its thread runs
   abbrev pub IsBegunAt : Tid → Call → P → P → Type 0
   IsBegunAt =
-      IsBegun I.Fits I.cpu_of I.opening I.site I.room I.ActsFor I.MayHold I.own I.is_inside
-      I.under_way I.seen
+      IsBegun I.Coupled I.cpu_of I.opening I.machine_id I.room I.ActsFor I.MayHold I.local
+      I.is_inside
+      I.under_way I.history
       I.moves I.acts I.IsWhole I.IsStepwise plan
 
   -- and so did so many polls of this call and of its section's lock
   abbrev pub PolledOnAt : Tid → Call → P → M → ℕ → P → M → Option ReplyKind → Type 0
   PolledOnAt =
-      PolledOn I.Fits I.cpu_of I.opening I.site I.room I.ActsFor I.MayHold I.own I.is_inside
-      I.under_way I.seen
+      PolledOn I.Coupled I.cpu_of I.opening I.machine_id I.room I.ActsFor I.MayHold I.local
+      I.is_inside
+      I.under_way I.history
       I.moves I.acts I.IsWhole I.IsStepwise plan

@@ -2,7 +2,8 @@
 -- height, since it names no edit, no result and no table.
 use Rattle.std.specs.Prelude.{◌≡◌, List, ◌∷◌, ◌++◌, ◌==◌}
 use Rattle.event_log.specs.{declared.ids.{CpuId.CpuId, LockId.LockId}, History.AreForeign}
-use Rattle.event_log.specs.Actions.{Action, Try, Waits, cpu_of_action, gives, phase, spot_of}
+use Rattle.event_log.specs.Actions.{Action, Try, Waits, cpu_of_action, gives, phase}
+use Rattle.event_log.specs.Actions.{ticket_index_of}
 
 -- environment actions are first, and then this CPU, which waits at a lock, tried to enter it
 pub record Tries {N : Type 0} (ActsFor : CpuId → Type 0) (cpu : CpuId)
@@ -13,4 +14,4 @@ pub record Tries {N : Type 0} (ActsFor : CpuId → Type 0) (cpu : CpuId)
   pub joined : past ≡ others ++ old
   pub lock : LockId
   pub waits : phase cpu past ≡ Waits lock
-  pub grows : new ≡ Try cpu lock (gives lock past == spot_of cpu past) ∷ past
+  pub grows : new ≡ Try cpu lock (gives lock past == ticket_index_of cpu past) ∷ past

@@ -14,7 +14,7 @@ pub record Table (N B R : Type 0) : Type 0 where
 
 -- the table of edits that are their own names
 abbrev pub table_of : {E B O : Type 0} → Rules E B O → Table E B O
-table_of rules = record { edited = rules.edited; answer = rules.answer }
+table_of protocol = record { edited = protocol.edited; answer = protocol.answer }
 
 -- whether a CPU is in a section: it waits at a lock or holds one
 abbrev pub is_in_section : Phase → Bool
@@ -24,7 +24,7 @@ is_in_section (Holds lock) = true
 
 -- what a poll leaves: the part's private state, and the call's result if there is one
 pub record Left (S A : Type 0) : Type 0 where
-  pub own : S
+  pub local : S
   pub answer : Option A
 
 -- the plan of a poll: to do without an action and leave this, or one action of the section of this
@@ -74,7 +74,7 @@ Follows ActsFor table opening cpu (Act lock name react) old new got =
 
 -- what a part without private state leaves: only the result
 abbrev pub answered : {A : Type 0} → Option A → Left (Unit {0}) A
-answered result = record { own = tt; answer = result }
+answered result = record { local = tt; answer = result }
 
 -- the plan of a section: one action of it, and its result is the call's
 abbrev pub section_plan : {E O : Type 0} → LockId → E → Plan E O (Unit {0}) O

@@ -17,7 +17,7 @@ use Rattle.layer_traits.specs.Blocks.{QueueBlocks.homes_in, Capacities.caps_in}
 use Rattle.layer_traits.specs.{Blocks.QueueRules.queue_rules, Polling.{Framed.Framed, Looks.Tries}}
 use Rattle.layer_traits.specs.{Polling.Plans.{Follows, table_of}, Threads.Places.Step}
 
-module _ {P M : Type 0} (Fits : P → M → Type 0) (cpu_of : P → CpuId)
+module _ {P M : Type 0} (Coupled : P → M → Type 0) (cpu_of : P → CpuId)
     (opening_of : M → LockId → Option (QueueBlock BufferLock)) (site_of : M → List ℕ)
     (room_of : M → ℕ) (ActsFor MayHold : M → CpuId → Type 0) (own_of : P → Buffering)
     (is_inside : P → Bool) (under_way_of : P → Option UnderWay) (seen_of : M → List Entry)
@@ -26,16 +26,17 @@ module _ {P M : Type 0} (Fits : P → M → Type 0) (cpu_of : P → CpuId)
     (plan : ℕ → List CpuId → CpuId → Tid → Call → Buffering → BufferPlan Reply) where
   -- a poll of the lock took the part p and the machine m to q and n, and returned whether it
   -- polled: all that such a poll guarantees
-  pub record Looked (told : Bool) (p : P) (m : M) (q : P) (n : M) : Type 0 where
-    pub still : told ≡ false → (q ≡ p) × (n ≡ m)
-    pub waits : told ≡ true → is_inside p ≡ true
-    pub framed : Framed Fits cpu_of opening_of site_of room_of ActsFor MayHold p q m n
-    pub own : own_of q ≡ own_of p
+  pub record Looked (abstract_answer : Bool) (p : P) (m : M) (q : P) (n : M) : Type 0 where
+    pub still : abstract_answer ≡ false → (q ≡ p) × (n ≡ m)
+    pub waits : abstract_answer ≡ true → is_inside p ≡ true
+    pub framed : Framed Coupled cpu_of opening_of site_of room_of ActsFor MayHold p q m n
+    pub local : own_of q ≡ own_of p
     pub inside : is_inside q ≡ is_inside p
     pub under_way : under_way_of q ≡ under_way_of p
-    pub seen : OthersSeen (ActsFor m) (seen_of m) (seen_of n)
+    pub history : OthersSeen (ActsFor m) (seen_of m) (seen_of n)
     pub moves : MovesGrow (ActsFor m) (cpu_of p) (moves_of m) (moves_of n)
-    pub tries : IsStepwise → told ≡ true → Tries (ActsFor m) (cpu_of p) (acts_of m) (acts_of n)
+    pub tries : IsStepwise → abstract_answer ≡ true
+        → Tries (ActsFor m) (cpu_of p) (acts_of m) (acts_of n)
 
   -- consecutive polls of the lock took the part p and the machine m to this part and machine, and
   -- the number of actions taken from `before` to this one
@@ -61,14 +62,14 @@ module _ {P M : Type 0} (Fits : P → M → Type 0) (cpu_of : P → CpuId)
       pub prompt : IsWhole → answer ≡ None
           → IsRefused call (caps_in (opening_of m)) (seen_of n)
           × ((threads_in (own_of q)).current ≡ None)
-      pub framed : Framed Fits cpu_of opening_of site_of room_of ActsFor MayHold p q m n
+      pub framed : Framed Coupled cpu_of opening_of site_of room_of ActsFor MayHold p q m n
       pub follows : IsStepwise
           → Follows (ActsFor m)
           (table_of (queue_rules (lock_rules buffer_rules) (lock_moves buffer_rules)))
           (opening_of m) (cpu_of p)
           (plan (length (caps_in (opening_of m))) (homes_in (opening_of m)) (cpu_of p) t call
           (own_of p)) (acts_of m) (acts_of n)
-          (record { own = own_of q; answer = answer })
+          (record { local = own_of q; answer = answer })
 
     -- the call that began in the part p has not ended in q, its thread runs, and it has had no
     -- effect since
@@ -80,12 +81,15 @@ module _ {P M : Type 0} (Fits : P → M → Type 0) (cpu_of : P → CpuId)
     -- so many polls of the call and of its section's lock, of which the first is one of the call.
     -- They took the part p and the machine m to this part and machine, and the last returned this
     -- kind. After each poll except the last, the call had not ended and had had no effect
-    pub data PolledOn (p : P) (m : M) : (actions : ℕ) → P → M → (told : Option ReplyKind)
+    pub data PolledOn (p : P) (m : M) : (actions : ℕ) → P → M → (abstract_answer : Option ReplyKind)
         → Type 0 where
-      once : {q : P} {n : M} {told : Option ReplyKind}
-          → Polled p m q n (answer_in (own_of q).call_states t told) → PolledOn p m 1 q n told
-      again : {k : ℕ} {q r : P} {n o : M} {told : Option ReplyKind} → PolledOn p m k q n None
+      once : {q : P} {n : M} {abstract_answer : Option ReplyKind}
+          → Polled p m q n (answer_in (own_of q).call_states t abstract_answer)
+          → PolledOn p m 1 q n abstract_answer
+      again : {k : ℕ} {q r : P} {n o : M} {abstract_answer : Option ReplyKind}
+          → PolledOn p m k q n None
           → IsBegun p q
-          → Polled q n r o (answer_in (own_of r).call_states t told) → PolledOn p m (k + 1) r o told
+          → Polled q n r o (answer_in (own_of r).call_states t abstract_answer)
+          → PolledOn p m (k + 1) r o abstract_answer
       looks : {k : ℕ} {q r : P} {n o : M} → PolledOn p m k q n None → IsBegun p q
           → Looked true q n r o → PolledOn p m (k + 1) r o None

@@ -20,15 +20,16 @@ MayPoll Allowed past (Some under_way) s = under_way ≡ s
 -- the result of a section after these sections: that of its edit on the block which they leave
 abbrev pub Answers : {E B O : Type 0} → Rules E B O → (LockId → Option B) → List (Section E)
     → Section E → O → Type 0
-Answers rules opening past s out =
-    option_map (rules.answer s.edit) (block_after rules.edited opening s.lock past) ≡ Some out
+Answers protocol opening past s out =
+    option_map (protocol.answer s.edit) (block_after protocol.edited opening s.lock past) ≡ Some out
 
 -- a poll of a section: environment sections are first, then the section itself exactly if the poll
 -- returns a result, with its result at that point
-pub record PolledAtLock {E B O : Type 0} (rules : Rules E B O) (opening : LockId → Option B)
+pub record PolledAtLock {E B O : Type 0} (protocol : Rules E B O) (opening : LockId → Option B)
     (ActsFor : CpuId → Type 0) (s : Section E)
     (result : Option O) (old new : List (Section E)) : Type 0 where
   pub others : List (Section E)
   pub foreign : AreForeign ActsFor cpu_of_section others
   pub is : new ≡ (if is_some result then s ∷ (others ++ old) else others ++ old)
-  pub answers : MatchOption result (Unit {0}) (λ out. Answers rules opening (others ++ old) s out)
+  pub answers : MatchOption result (Unit {0})
+      (λ out. Answers protocol opening (others ++ old) s out)

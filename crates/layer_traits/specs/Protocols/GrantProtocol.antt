@@ -25,6 +25,6 @@ abbrev pub GrantMayCome : {E : Type 0} → (List (Section E) → Section E → T
 GrantMayCome Allowed past e = MayFollowGrants past e × KeepsGrantProtocol Allowed past e
 
 -- some CPU is inside this lock
-abbrev pub SomeoneHasIt : {M : Type 0} → LockId → List (GrantEvent M) → Type 0
-SomeoneHasIt lock log =
+abbrev pub IsHeldBySome : {M : Type 0} → LockId → List (GrantEvent M) → Type 0
+IsHeldBySome lock log =
     (cpu : CpuId) × (ticket : ℕ) × (grant_lock_phase cpu log ≡ Holding lock ticket)

@@ -10,8 +10,8 @@ abbrev pub SomeoneInside : {M : Type 0} → LockId → List (Event M) → Type 0
 SomeoneInside lock log = (cpu : CpuId) × (ticket : ℕ) × (lock_phase cpu log ≡ Holding lock ticket)
 
 -- no CPU is inside this lock
-abbrev pub NobodyInside : {M : Type 0} → LockId → List (Event M) → Type 0
-NobodyInside lock log = (cpu : CpuId) (ticket : ℕ) → lock_phase cpu log ≡ Holding lock ticket → ⊥
+abbrev pub NoneInside : {M : Type 0} → LockId → List (Event M) → Type 0
+NoneInside lock log = (cpu : CpuId) (ticket : ℕ) → lock_phase cpu log ≡ Holding lock ticket → ⊥
 
 -- the machine's store for a lock's block is empty exactly while a CPU is inside; otherwise it has
 -- the block that the sections leave
@@ -19,7 +19,7 @@ abbrev pub HomeFits : {E B : Type 0} → (E → B → B) → (LockId → Option 
     → LockId → Option B → Type 0
 HomeFits edited opening log lock home =
     MatchOption home (SomeoneInside lock log)
-    (λ block. NobodyInside lock log × (block_after edited opening lock (sections log) ≡ Some block))
+    (λ block. NoneInside lock log × (block_after edited opening lock (sections log) ≡ Some block))
 
 -- the opening block of a lock in a list of locks with their blocks; None if the lock is not in the
 -- list

@@ -38,16 +38,17 @@ Agrees lock lines asleep =
 -- the lists of each lock agree with the places of the threads
 abbrev pub ListsAgree : {E B O : Type 0} → SleepRules E B O
     → (LockId → Option (QueueBlock (SleepState B))) → List (QueueEvent E) → Type 0
-ListsAgree rules opening seen = (lock : LockId) →
+ListsAgree protocol opening history = (lock : LockId) →
     Agrees lock (λ line. wait_list_at line
-    (block_after (sleep_edited rules) (inner opening) lock (buffer_sections seen)))
-    (λ t. wait_channel_of (where_is (homes_in opening) (moves_in (sleep_kernel rules opening) seen)
+    (block_after (sleep_edited protocol) (inner opening) lock (buffer_sections history)))
+    (λ t. wait_channel_of (where_is (homes_in opening)
+    (moves_in (sleep_kernel protocol opening) history)
     t))
 
 -- the places of a part's threads are at its CPU, each once and no other, and the lists of each lock
 -- agree with the places
-pub record SleepAgrees {E B O : Type 0} (rules : SleepRules E B O)
+pub record SleepAgrees {E B O : Type 0} (protocol : SleepRules E B O)
     (opening : LockId → Option (QueueBlock (SleepState B))) (c : CpuId)
-    (seen : List (QueueEvent E)) (own : Threads) : Type 0 where
-  pub stands : Stands (homes_in opening) c (moves_in (sleep_kernel rules opening) seen) own
-  pub lists : ListsAgree rules opening seen
+    (history : List (QueueEvent E)) (local : Threads) : Type 0 where
+  pub stands : Stands (homes_in opening) c (moves_in (sleep_kernel protocol opening) history) local
+  pub lists : ListsAgree protocol opening history

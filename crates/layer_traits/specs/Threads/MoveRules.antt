@@ -24,16 +24,17 @@ edit_move mv lock edit (Some out) = Moved lock (mv.caller edit) (mv.slept out) (
 -- the move of a section after these sections
 abbrev pub section_move : {E B O : Type 0} → Rules E B O → MoveRules E O → (LockId → Option B)
     → List (Section E) → Section E → Move
-section_move rules mv opening past s =
+section_move protocol mv opening past s =
     edit_move mv s.lock s.edit
-    (option_map (rules.answer s.edit) (block_after rules.edited opening s.lock past))
+    (option_map (protocol.answer s.edit) (block_after protocol.edited opening s.lock past))
 
 -- the steps of these sections
 abbrev pub section_moves : {E B O : Type 0} → Rules E B O → MoveRules E O → (LockId → Option B)
     → List (Section E) → List Step
-section_moves rules mv opening [] = []
-section_moves rules mv opening (s ∷ past) =
-    step_with s.cpu (section_move rules mv opening past s) ∷ section_moves rules mv opening past
+section_moves protocol mv opening [] = []
+section_moves protocol mv opening (s ∷ past) =
+    step_with s.cpu (section_move protocol mv opening past s)
+    ∷ section_moves protocol mv opening past
 
 -- where the caller of an edit sleeps after it
 abbrev pub slept_at : LockId → Option WaitList → Option WaitChannel → Option WaitChannel
@@ -55,9 +56,10 @@ asleep_by (s ∷ past) t = asleep_after s.move t (asleep_by past t)
 
 -- a thread that an allowed section wakes, after allowed ones, is asleep
 abbrev pub WakesSleepers : {E B O : Type 0} → Rules E B O → MoveRules E O → Type 0
-WakesSleepers {E} {B} {O} rules mv =
+WakesSleepers {E} {B} {O} protocol mv =
     (opening : LockId → Option B) (past : List (Section E)) (s : Section E) (out : O) (u : Tid)
-    → IsLawful (rules.allowed opening) past → rules.allowed opening past s
-    → option_map (rules.answer s.edit) (block_after rules.edited opening s.lock past) ≡ Some out
-    → mv.woke out ≡ Some u → is_wait_channel (asleep_by (section_moves rules mv opening past) u)
+    → IsLawful (protocol.allowed opening) past → protocol.allowed opening past s
+    → option_map (protocol.answer s.edit) (block_after protocol.edited opening s.lock past)
+    ≡ Some out
+    → mv.woke out ≡ Some u → is_wait_channel (asleep_by (section_moves protocol mv opening past) u)
     ≡ true

@@ -26,66 +26,72 @@ as_list (Some t) = t ∷ []
 
 -- context switch: the thread at the head of the run queue runs
 abbrev pub switched : Threads → Threads
-switched own =
-    record { current = first own.ready; hand = own.hand; ready = rest own.ready; ended = own.ended }
+switched local =
+    record {
+      current = first local.ready;
+      hand = local.hand;
+      ready = rest local.ready;
+      ended = local.ended;
+    }
 
 -- the pending threads join the run queue, and after them the thread that ran
 abbrev pub took_pending : List Tid → Threads → Threads
-took_pending queue own =
+took_pending queue local =
     record {
       current = None;
-      hand = own.hand;
-      ready = (own.ready ++ queue) ++ as_list own.current;
-      ended = own.ended;
+      hand = local.hand;
+      ready = (local.ready ++ queue) ++ as_list local.current;
+      ended = local.ended;
     }
 
 -- the hand is empty: its thread was forwarded
 abbrev pub passed_on : Threads → Threads
-passed_on own = record { current = own.current; hand = None; ready = own.ready; ended = own.ended }
+passed_on local =
+    record { current = local.current; hand = None; ready = local.ready; ended = local.ended }
 
 -- the thread that ran has ended
 abbrev pub finished : Threads → Threads
-finished own =
+finished local =
     record {
       current = None;
-      hand = own.hand;
-      ready = own.ready;
-      ended = own.ended ++ as_list own.current;
+      hand = local.hand;
+      ready = local.ready;
+      ended = local.ended ++ as_list local.current;
     }
 
 -- the thread that ran has gone to sleep, if it did
 abbrev pub own_slept : Option WaitList → Threads → Threads
-own_slept None own = own
-own_slept (Some line) own =
-    record { current = None; hand = own.hand; ready = own.ready; ended = own.ended }
+own_slept None local = local
+own_slept (Some line) local =
+    record { current = None; hand = local.hand; ready = local.ready; ended = local.ended }
 
 -- a thread that this CPU woke is ready if this CPU is its home, and otherwise in the hand
 abbrev pub own_woken : List CpuId → CpuId → Option Tid → Threads → Threads
-own_woken homes c None own = own
-own_woken homes c (Some u) own = record {
-  current = own.current;
-  hand = if is_cpu c (home_of homes u) then own.hand else Some u;
-  ready = if is_cpu c (home_of homes u) then own.ready ++ u ∷ [] else own.ready;
-  ended = own.ended;
+own_woken homes c None local = local
+own_woken homes c (Some u) local = record {
+  current = local.current;
+  hand = if is_cpu c (home_of homes u) then local.hand else Some u;
+  ready = if is_cpu c (home_of homes u) then local.ready ++ u ∷ [] else local.ready;
+  ended = local.ended;
 }
 
 -- a CPU's private state after a pass, if this was its pending queue
 abbrev pub pass_after : Pass → List Tid → Threads → Threads
-pass_after Switch queue own = switched own
-pass_after YieldNow queue own = took_pending queue own
-pass_after Drain queue own = took_pending queue own
-pass_after (MakeReady t) queue own = passed_on own
-pass_after End queue own = finished own
+pass_after Switch queue local = switched local
+pass_after YieldNow queue local = took_pending queue local
+pass_after Drain queue local = took_pending queue local
+pass_after (MakeReady t) queue local = passed_on local
+pass_after End queue local = finished local
 
 -- a pass is allowed: a switch if no thread runs and some thread is ready, a drain if no thread runs
 -- and none is ready. A yield and an end are allowed if a thread runs. None of them is allowed while
 -- a woken thread is in the hand: that thread is made ready first
 abbrev pub MayPass : Pass → Threads → Type 0
-MayPass Switch own = (own.current ≡ None) × (own.hand ≡ None) × (own.ready ≢ [])
-MayPass YieldNow own = IsSome own.current × (own.hand ≡ None)
-MayPass Drain own = (own.current ≡ None) × (own.hand ≡ None) × (own.ready ≡ [])
-MayPass (MakeReady t) own = own.hand ≡ Some t
-MayPass End own = IsSome own.current × (own.hand ≡ None)
+MayPass Switch local = (local.current ≡ None) × (local.hand ≡ None) × (local.ready ≢ [])
+MayPass YieldNow local = IsSome local.current × (local.hand ≡ None)
+MayPass Drain local = (local.current ≡ None) × (local.hand ≡ None) × (local.ready ≡ [])
+MayPass (MakeReady t) local = local.hand ≡ Some t
+MayPass End local = IsSome local.current × (local.hand ≡ None)
 
 -- the steps of a pass, if it is done
 abbrev pub pass_steps : List CpuId → CpuId → Pass → List Step
@@ -108,11 +114,11 @@ IsLocalPass End = Unit {0}
 -- returns at once
 pub record PassPolled (homes : List CpuId) (ActsFor : CpuId → Type 0) (c : CpuId) (call : Pass)
     {A : Type 0} (result : Option A) (old new : List Step)
-    (own own' : Threads) : Type 0 where
+    (local local' : Threads) : Type 0 where
   pub others : List Step
   pub foreign : AreForeign ActsFor cpu_of_step others
   pub is : new ≡ (if is_some result then pass_steps homes c call ++ (others ++ old)
       else others ++ old)
-  pub after : own' ≡ (if is_some result then pass_after call (pending_by (others ++ old) c) own
-      else own)
+  pub after : local' ≡ (if is_some result then pass_after call (pending_by (others ++ old) c) local
+      else local)
   pub at_once : IsLocalPass call → IsSome result

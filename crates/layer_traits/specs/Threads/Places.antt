@@ -177,7 +177,8 @@ count_in t (x ∷ queue) = one_if (same_tid t x) + count_in t queue
 
 -- how often a CPU has a thread: running, ready or ended
 abbrev pub copies : Threads → Tid → ℕ
-copies own t = one_if (is_thread t own.current) + count_in t own.ready + count_in t own.ended
+copies local t =
+    one_if (is_thread t local.current) + count_in t local.ready + count_in t local.ended
 
 -- whether a thread is on its home CPU and this CPU is its home
 abbrev pub is_here : List CpuId → CpuId → List Step → Tid → Bool
@@ -185,10 +186,10 @@ is_here homes c moves t = is_cpu c (home_of homes t) && is_home (where_is homes 
 
 -- a CPU's private state agrees with the places. It has each thread that is on this home CPU once,
 -- and no other, and in its hand exactly the thread whose place is there
-pub record Stands (homes : List CpuId) (c : CpuId) (moves : List Step) (own : Threads) : Type
+pub record Stands (homes : List CpuId) (c : CpuId) (moves : List Step) (local : Threads) : Type
     0 where
-  pub places : (t : Tid) → copies own t ≡ one_if (is_here homes c moves t)
-  pub hand : (t : Tid) → is_thread t own.hand ≡ is_hand c (where_is homes moves t)
+  pub places : (t : Tid) → copies local t ≡ one_if (is_here homes c moves t)
+  pub hand : (t : Tid) → is_thread t local.hand ≡ is_hand c (where_is homes moves t)
 
 -- the threads whose home this CPU is, in the order of their numbers, if the list of homes begins at
 -- thread n

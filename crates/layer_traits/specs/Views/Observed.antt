@@ -10,12 +10,12 @@ use Rattle.event_log.specs.declared.ids.LockId.TheVariants as lock
 use Rattle.layer_traits.specs.declared.calls.Place.TheVariants as place
 
 -- what the machine or a part reports is true, and some CPU holds what the machine does not report
-pub record IsObservedAs {P A : Type 0} (Fits : P → Type 0) (cpu_of : P → CpuId)
+pub record IsObservedAs {P A : Type 0} (Coupled : P → Type 0) (cpu_of : P → CpuId)
     (IsInside : CpuId → Type 0) (here : P → Option A)
     (home : Option A) (truth : A) : Type 0 where
   pub by_machine : (x : A) → home ≡ Some x → x ≡ truth
-  pub by_part : (p : P) (x : A) → Fits p → here p ≡ Some x → x ≡ truth
-  pub somewhere : home ≡ None → IsHeld Fits cpu_of IsInside here
+  pub by_part : (p : P) (x : A) → Coupled p → here p ≡ Some x → x ≡ truth
+  pub somewhere : home ≡ None → IsHeld Coupled cpu_of IsInside here
 
 -- a CPU may report the place of a thread: it is the thread's home, it has the thread in its hand,
 -- or it may hold a lock
@@ -24,12 +24,12 @@ MayObserve IsInside home where_it_is c =
     (home ≡ Some c) ⊎ ((where_it_is ≡ Hand c) ⊎ ((c.0 < CPUS) × IsInside c))
 
 -- the parts of one CPU report the place of a thread
-pub record ReadsPlace {P : Type 0} (Fits : P → Type 0) (cpu_of : P → CpuId)
+pub record ReadsPlace {P : Type 0} (Coupled : P → Type 0) (cpu_of : P → CpuId)
     (IsInside : CpuId → Type 0) (IsSilent : P → Type 0)
     (home : Option CpuId) (where_it_is : Where) : Type 0 where
   pub cpu : CpuId
   pub may : MayObserve IsInside home where_it_is cpu
-  pub has : (p : P) → cpu_of p ≡ cpu → Fits p → IsSilent p → ⊥
+  pub has : (p : P) → cpu_of p ≡ cpu → Coupled p → IsSilent p → ⊥
 
 -- the queue of a thread that is not with a CPU: a pending queue, or a waiting list of a buffer
 abbrev pub queue_place : Where → Option Place
@@ -43,11 +43,11 @@ queue_place (Asleep (At (lock.Buffer b) Senders)) = Some (place.WaitSend b)
 
 -- a thread is here among the CPU's own threads
 abbrev pub IsOwnPlace : CpuId → Threads → Tid → Place → Type 0
-IsOwnPlace cpu own t (place.Running c) = (c ≡ cpu) × (own.current ≡ Some t)
-IsOwnPlace cpu own t (place.Ready c) = (c ≡ cpu) × (is_in t own.ready ≡ true)
-IsOwnPlace cpu own t (place.Pending c) = ⊥
-IsOwnPlace cpu own t (place.Hand c) = (c ≡ cpu) × (own.hand ≡ Some t)
-IsOwnPlace cpu own t (place.LockSleeper b) = ⊥
-IsOwnPlace cpu own t (place.WaitRecv b) = ⊥
-IsOwnPlace cpu own t (place.WaitSend b) = ⊥
-IsOwnPlace cpu own t place.Ended = is_in t own.ended ≡ true
+IsOwnPlace cpu local t (place.Running c) = (c ≡ cpu) × (local.current ≡ Some t)
+IsOwnPlace cpu local t (place.Ready c) = (c ≡ cpu) × (is_in t local.ready ≡ true)
+IsOwnPlace cpu local t (place.Pending c) = ⊥
+IsOwnPlace cpu local t (place.Hand c) = (c ≡ cpu) × (local.hand ≡ Some t)
+IsOwnPlace cpu local t (place.LockSleeper b) = ⊥
+IsOwnPlace cpu local t (place.WaitRecv b) = ⊥
+IsOwnPlace cpu local t (place.WaitSend b) = ⊥
+IsOwnPlace cpu local t place.Ended = is_in t local.ended ≡ true

@@ -16,11 +16,11 @@ pub record AreOpenable (cpus : ℕ) (caps : List ℕ) (homes : List CpuId) : Typ
 
 -- a machine is as it was opened: it has these buffers and homes, nothing was done in it, and it has
 -- room for so many polls
-pub record Opened (caps : List ℕ) (homes : List CpuId) (seen : List Entry) (moves : List Step)
+pub record Opened (caps : List ℕ) (homes : List CpuId) (history : List Entry) (moves : List Step)
     (room : ℕ) (capacities : List ℕ)
     (threads_at : List CpuId) (polls : ℕ) : Type 0 where
   pub caps_are : caps ≡ capacities
   pub homes_are : homes ≡ threads_at
-  pub none_seen : seen ≡ []
+  pub none_seen : history ≡ []
   pub none_moved : moves ≡ []
   pub room_is : polls ≤ room

@@ -3,4 +3,4 @@ use Rattle.layer_traits.specs.{Layers.BufferLaw.Buffering, Threads.Places.Thread
 
 -- its threads
 abbrev pub threads_in : Buffering → Threads
-threads_in own = own.cv.lock.sleep.threads
+threads_in local = local.cv.lock.sleep.threads

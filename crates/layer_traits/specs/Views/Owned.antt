@@ -8,20 +8,20 @@ use Rattle.layer_traits.specs.Layers.{QLocking.LockState, Sleeping.SleepState}
 use Rattle.thread_blocks.specs.Queues.{is_in}
 
 -- a CPU of the machine that may hold a lock holds it: each part of that CPU has something to report
-pub record IsHeld {P A : Type 0} (Fits : P → Type 0) (cpu_of : P → CpuId)
+pub record IsHeld {P A : Type 0} (Coupled : P → Type 0) (cpu_of : P → CpuId)
     (IsInside : CpuId → Type 0) (here : P → Option A) : Type 0 where
   pub cpu : CpuId
   pub known : cpu.0 < CPUS
   pub inside : IsInside cpu
-  pub has : (p : P) → cpu_of p ≡ cpu → Fits p → here p ≢ None
+  pub has : (p : P) → cpu_of p ≡ cpu → Coupled p → here p ≢ None
 
 -- what the machine or a part reports is true, and some CPU holds what the machine does not report
-pub record IsObserved {P A : Type 0} (Fits : P → Type 0) (cpu_of : P → CpuId)
+pub record IsObserved {P A : Type 0} (Coupled : P → Type 0) (cpu_of : P → CpuId)
     (IsInside : CpuId → Type 0) (here : P → Option A)
     (home truth : Option A) : Type 0 where
   pub by_machine : (x : A) → home ≡ Some x → truth ≡ Some x
-  pub by_part : (p : P) (x : A) → Fits p → here p ≡ Some x → truth ≡ Some x
-  pub somewhere : home ≡ None → IsHeld Fits cpu_of IsInside here
+  pub by_part : (p : P) (x : A) → Coupled p → here p ≡ Some x → truth ≡ Some x
+  pub somewhere : home ≡ None → IsHeld Coupled cpu_of IsInside here
 
 -- the first of these waiting lists that has a thread
 abbrev pub wait_list_among : Tid → (WaitList → List Tid) → Option WaitList

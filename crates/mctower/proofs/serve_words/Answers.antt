@@ -9,8 +9,8 @@ run_refused (Some steps) input out untouched = inl (refl, untouched)
 run_refused None input out untouched = inl (refl, untouched)
 
 -- and so may any order
-order_refused : (words : List Text) (meant : Option Ghost) (input : Option (List ℕ)) (out : Output) → IsUntouched out
-    → Serves words meant input (Err lacks_memory) out
+order_refused : (words : List Text) (abstract_call : Option Ghost) (input : Option (List ℕ)) (out : Output) → IsUntouched out
+    → Serves words abstract_call input (Err lacks_memory) out
 order_refused words (Some (run schedule)) input out untouched = run_refused (steps_asked schedule) input out untouched
 order_refused words other input out untouched = inl (refl, untouched)
 

@@ -11,7 +11,7 @@ use boot::LockKind;
 use cpu_workers::counting::{self, AddOne, CountFault, CountLaws, Counted};
 use cpu_workers::{OnLock, by_kind};
 use event_log::NoMemory;
-use plain_machine::{LineWords, Plain};
+use plain_machine::{LockQueueWords, Plain};
 use spinlock::Ticket;
 use std::alloc::Global;
 use std::marker::PhantomData;
@@ -19,7 +19,7 @@ use std::sync::Wait;
 use std::thread::Threads;
 
 /// Counts over the owned machine with locks of these words, which are of this kind.
-fn count_over<K: LineWords + OnLock>(
+fn count_over<K: LockQueueWords + OnLock>(
     alloc: Global,
     cpus: u8,
     times: u64,

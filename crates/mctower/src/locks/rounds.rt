@@ -25,18 +25,18 @@ fn round<L: LockLayer<AddOne>>(
     payload: &mut Payload,
 )
     requires stepwise { L.IsStepwise }
-    requires ready { AreReady L.cpu_of L.under_way L.Fits parts.old machine.old }
+    requires ready { AreReady L.cpu_of L.under_way L.Coupled parts.old machine.old }
     requires lock { IsSome (L.opening machine.old lock) }
     requires room { 3 * length parts.old ≤ L.room machine.old }
     requires owned { (c : CpuId) → c.0 < CPUS → L.ActsFor machine.old c }
     requires rests { (c : CpuId) → phase c (L.acts machine.old) ≡ Rests }
-    ensures ready { AreReady L.cpu_of L.under_way L.Fits parts.new machine.new }
+    ensures ready { AreReady L.cpu_of L.under_way L.Coupled parts.new machine.new }
     ensures opening { L.opening machine.new ≡ L.opening machine.old }
     ensures room { L.room machine.old ≤ L.room machine.new + 3 * length parts.old }
     ensures owned { (c : CpuId) → c.0 < CPUS → L.ActsFor machine.new c }
     ensures rests { (c : CpuId) → phase c (L.acts machine.new) ≡ Rests }
-    ensures counted { sections_at lock (L.seen machine.new)
-        ≡ sections_at lock (L.seen machine.old) + length parts.old }
+    ensures counted { sections_at lock (L.history machine.new)
+        ≡ sections_at lock (L.history machine.old) + length parts.old }
     ensures order { L.acts machine.new ≡ after_round lock (length parts.old) (L.acts machine.old) }
 {
     for i in 0..parts.len() {
@@ -47,7 +47,7 @@ fn round<L: LockLayer<AddOne>>(
 /// Does that many rounds, as [`round`] does one.
 fn rounds<L: LockLayer<AddOne>>(parts: &mut [L], machine: &mut L::Machine, lock: LockId, times: u64)
     requires stepwise { L.IsStepwise }
-    requires ready { AreReady L.cpu_of L.under_way L.Fits parts.old machine.old }
+    requires ready { AreReady L.cpu_of L.under_way L.Coupled parts.old machine.old }
     requires lock { IsSome (L.opening machine.old lock) }
     requires room { 3 * (times * length parts.old) ≤ L.room machine.old }
     requires owned { (c : CpuId) → c.0 < CPUS → L.ActsFor machine.old c }
@@ -55,8 +55,8 @@ fn rounds<L: LockLayer<AddOne>>(parts: &mut [L], machine: &mut L::Machine, lock:
     ensures opening { L.opening machine.new ≡ L.opening machine.old }
     ensures owned { (c : CpuId) → c.0 < CPUS → L.ActsFor machine.new c }
     ensures rests { (c : CpuId) → phase c (L.acts machine.new) ≡ Rests }
-    ensures counted { sections_at lock (L.seen machine.new)
-        ≡ sections_at lock (L.seen machine.old) + times * length parts.old }
+    ensures counted { sections_at lock (L.history machine.new)
+        ≡ sections_at lock (L.history machine.old) + times * length parts.old }
     ensures order { L.acts machine.new
         ≡ after_rounds lock (length parts.old) times (L.acts machine.old) }
 {
@@ -71,7 +71,7 @@ fn parts_of<L: LockLayer<AddOne> + Drop>(alloc: Global, cpus: u8) -> Result<Vec<
     ensures long { IfOk result (λ parts. length parts.items ≡ cpus) }
     ensures ready { IfOk result (λ parts. (m : _) → ((c : CpuId) → c.0 < cpus → L.ActsFor m c)
         → ((c : CpuId) → c.0 < cpus → L.IsOutside m c)
-        → AreReady L.cpu_of L.under_way L.Fits parts.items m) }
+        → AreReady L.cpu_of L.under_way L.Coupled parts.items m) }
 {
     let mut parts = Vec::with_capacity(alloc, cpus as usize)?;
     for number in 0..cpus {

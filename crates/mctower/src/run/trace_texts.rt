@@ -15,7 +15,7 @@ use tracer::{Sink, gather, write_trace};
 
 /// A law: the judge says yes to the text of any traces. Therefore `check` says yes to each text
 /// that a run of steps or a run in threads writes with success.
-pub fn texts_get_yes()
+pub fn outputs_pass_check()
     ensures { (text caps : List ℕ) (traces : List (List AnEntry)) (left : List (List Message))
         → IsTextOf caps traces left text
         → verdict_of text ≡ SaysYes }

@@ -32,7 +32,7 @@ pub enum Done {
 /// Requires: the sink has not failed.
 ///
 /// Errors: `WriteFault` if a write or the flush failed.
-pub(crate) fn put_out<O: Write>(
+pub(crate) fn write_output<O: Write>(
     out: &mut Sink<O>,
     pieces: &[&[u8]],
     done: Done,

@@ -10,7 +10,7 @@ ghost use Rattle.mctower.specs.Refusals.{lacks_memory};
 use crate::refusals::{Refusal, worker_refused};
 use crate::run::run_faults::{Fault, run_refused};
 use crate::run::trace_texts::write_lists;
-use crate::serve::outcomes::{Done, put_out, read_all};
+use crate::serve::outcomes::{Done, read_all, write_output};
 use crate::tell::state_lines::put_cpu;
 use arrayvec::ArrayVec;
 use boot::{Boot, BootError};
@@ -100,7 +100,7 @@ fn work_plan<O: Write, T: Threads + Wait + Sync>(
     if let Err(fault) = write_lists(alloc, caps.as_slice(), &traces, &left, out) {
         return Err(run_refused(fault));
     }
-    put_out(out, &[], Done::Worked(stops))
+    write_output(out, &[], Done::Worked(stops))
 }
 
 /// Runs the plan of these bytes with a worker thread for each CPU.

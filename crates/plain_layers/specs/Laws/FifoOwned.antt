@@ -89,11 +89,12 @@ module _ (opening : LockId → Option (QueueBlock PlainLocked))
       ∙ ap (λ o. Some (λ (line : WaitList). wait_list_at line o)) (sym state.1)
 
 -- no thread owns a lock of buffers with one section a call, and the machine reports so
-pub nobody_owns : {P : Type 0} (Fits : P → Type 0) (cpu_of : P → CpuId) (IsInside : CpuId → Type 0)
-    → IsObservedAs Fits cpu_of IsInside (λ p. nothing_read) (Some nobody) nobody
-nobody_owns Fits cpu_of IsInside = record {
+pub nobody_owns : {P : Type 0} (Coupled : P → Type 0) (cpu_of : P → CpuId)
+    (IsInside : CpuId → Type 0)
+    → IsObservedAs Coupled cpu_of IsInside (λ p. nothing_read) (Some nobody) nobody
+nobody_owns Coupled cpu_of IsInside = record {
   by_machine = λ x is. same_Some x nobody (sym is);
-  by_part = λ p x fits is. absurd cc;
+  by_part = λ p x coupled is. absurd cc;
   somewhere = λ none. absurd cc;
 }
 

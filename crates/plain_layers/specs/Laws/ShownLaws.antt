@@ -16,12 +16,13 @@ use Rattle.plain_layers.specs.{declared.kernel.{Lists.Lists, Opening.Opening}, K
 use Rattle.plain_layers.specs.{Kernels.opening_of, Tables.IsTable}
 
 -- what is there and in its place is shown
-shown_at_home : {P A : Type 0} (Fits : P → Type 0) (cpu_of : P → CpuId) (IsInside : CpuId → Type 0)
+shown_at_home : {P A : Type 0} (Coupled : P → Type 0) (cpu_of : P → CpuId)
+    (IsInside : CpuId → Type 0)
     (home truth : Option A) → home ≡ truth → IsSome truth
-    → IsObserved Fits cpu_of IsInside (λ p. None) home truth
-shown_at_home {P} {A} Fits cpu_of IsInside home truth is there = record {
+    → IsObserved Coupled cpu_of IsInside (λ p. None) home truth
+shown_at_home {P} {A} Coupled cpu_of IsInside home truth is there = record {
   by_machine = λ x tells. sym is ∙ tells;
-  by_part = λ p x fits tells. absurd (cc tells);
+  by_part = λ p x coupled tells. absurd (cc tells);
   somewhere = λ none. absurd (nothing (subst (λ o. IsSome o) (sym is ∙ none) there));
 }
   where
@@ -29,30 +30,30 @@ shown_at_home {P} {A} Fits cpu_of IsInside home truth is there = record {
     nothing some = cc
 
 -- each block is in its place in the list of blocks
-pub table_shown : {P E B O : Type 0} (rules : Rules E B O) (opening : LockId → Option B)
+pub table_shown : {P E B O : Type 0} (protocol : Rules E B O) (opening : LockId → Option B)
     (past : List (Section E)) (list : List (LockId × B))
-    (Fits : P → Type 0) (cpu_of : P → CpuId) (IsInside : CpuId → Type 0) (lock : LockId)
-    → IsTable rules opening past list → IsSome (opening lock)
-    → IsObserved Fits cpu_of IsInside (λ p. None) (opened list lock)
-    (block_after rules.edited opening lock past)
-table_shown rules opening past list Fits cpu_of IsInside lock table there =
-    shown_at_home Fits cpu_of IsInside (opened list lock)
-    (block_after rules.edited opening lock past) (table.blocks lock)
-    (block_there rules.edited opening lock past there)
+    (Coupled : P → Type 0) (cpu_of : P → CpuId) (IsInside : CpuId → Type 0) (lock : LockId)
+    → IsTable protocol opening past list → IsSome (opening lock)
+    → IsObserved Coupled cpu_of IsInside (λ p. None) (opened list lock)
+    (block_after protocol.edited opening lock past)
+table_shown protocol opening past list Coupled cpu_of IsInside lock table there =
+    shown_at_home Coupled cpu_of IsInside (opened list lock)
+    (block_after protocol.edited opening lock past) (table.blocks lock)
+    (block_there protocol.edited opening lock past there)
 
-module _ {E B O : Type 0} (rules : Rules E B O) (mv : MoveRules E O) (start : Opening B)
+module _ {E B O : Type 0} (protocol : Rules E B O) (mv : MoveRules E O) (start : Opening B)
     (past : List (QueueEvent E)) (lists : Lists B)
-    (sound : IsKernel rules mv start past lists) where
+    (sound : IsKernel protocol mv start past lists) where
   -- each buffer's block is in its place, whatever the parts are
-  pub block_shown : {P : Type 0} (Fits : P → Type 0) (cpu_of : P → CpuId)
+  pub block_shown : {P : Type 0} (Coupled : P → Type 0) (cpu_of : P → CpuId)
       (IsInside : CpuId → Type 0) (b : BufId) → IsSome (opening_of start (Buffer b))
-      → IsObserved Fits cpu_of IsInside (λ p. None) (slice_get lists.buffers.items b.0)
-      (block_after rules.edited (inner (opening_of start)) (Buffer b) (buffer_sections past))
-  block_shown Fits cpu_of IsInside b there =
-      shown_at_home Fits cpu_of IsInside (slice_get lists.buffers.items b.0)
-      (block_after rules.edited (inner (opening_of start)) (Buffer b) (buffer_sections past))
+      → IsObserved Coupled cpu_of IsInside (λ p. None) (slice_get lists.buffers.items b.0)
+      (block_after protocol.edited (inner (opening_of start)) (Buffer b) (buffer_sections past))
+  block_shown Coupled cpu_of IsInside b there =
+      shown_at_home Coupled cpu_of IsInside (slice_get lists.buffers.items b.0)
+      (block_after protocol.edited (inner (opening_of start)) (Buffer b) (buffer_sections past))
       (sound.blocks b)
-      (block_there rules.edited (inner (opening_of start)) (Buffer b) (buffer_sections past)
+      (block_there protocol.edited (inner (opening_of start)) (Buffer b) (buffer_sections past)
       (go (slice_get start.lists.value.buffers.items b.0) there))
     where
       go : (o : Option B) → IsSome (option_map Above o) → IsSome (above_of (option_map Above o))
@@ -60,14 +61,14 @@ module _ {E B O : Type 0} (rules : Rules E B O) (mv : MoveRules E O) (start : Op
       go (Some block) some = refl
 
   -- and so is each pending queue
-  pub queue_shown : {P : Type 0} (Fits : P → Type 0) (cpu_of : P → CpuId)
+  pub queue_shown : {P : Type 0} (Coupled : P → Type 0) (cpu_of : P → CpuId)
       (IsInside : CpuId → Type 0) (d : CpuId) → IsSome (opening_of start (Pending d))
-      → IsObserved Fits cpu_of IsInside (λ p. None) (slice_get lists.pending.items d.0)
-      (Some (pending_by (moves_in (kernel rules mv
+      → IsObserved Coupled cpu_of IsInside (λ p. None) (slice_get lists.pending.items d.0)
+      (Some (pending_by (moves_in (kernel protocol mv
       (opening_of start)) past) d))
-  queue_shown Fits cpu_of IsInside d there =
-      let queue = pending_by (moves_in (kernel rules mv (opening_of start)) past) d in
-      shown_at_home Fits cpu_of IsInside (slice_get lists.pending.items d.0) (Some queue)
+  queue_shown Coupled cpu_of IsInside d there =
+      let queue = pending_by (moves_in (kernel protocol mv (opening_of start)) past) d in
+      shown_at_home Coupled cpu_of IsInside (slice_get lists.pending.items d.0) (Some queue)
       (sound.queues d ∙ go queue (slice_get start.lists.value.pending.items d.0) there) refl
     where
       queue_of : List Tid → QueueBlock B

@@ -9,41 +9,42 @@ use Rattle.layer_traits.specs.{Layers.Sleeping.{SleepState, sleep_edited}, Views
 use Rattle.layer_traits.specs.{Views.Renaming.{renamed_events, viewed}, Threads.Places.pending_by}
 use Rattle.layer_traits.{specs.Blocks.QueueBlocks.inner, proofs.OwnedLemmas.{PartsOn, same_shown}}
 use Rattle.layer_traits.proofs.OwnedLemmas.{shown_on, viewed_shown}
-use Rattle.queuing_lock.specs.declared.edits.{QBlock.QBlock, QLockEdit.QLockEdit}
+use Rattle.queuing_lock.specs.declared.edits.{QLockBlock.QLockBlock, QLockSection.QLockSection}
 use Rattle.queuing_lock.specs.Laws.NestedLaws.{beneath_the_lock, at_the_lock, lock_is, same_moves}
 use Rattle.queuing_lock.specs.Nested.{busy_rules, lock_call, nested_lock_of}
 
-module _ {P Q F R B O : Type 0} (rules : LockRules F R B O)
-    (opening : LockId → Option (QueueBlock (SleepState (QBlock B))))
-    (past : List (QueueEvent (QLockEdit F R))) (parts : PartsOn P Q) where
+module _ {P Q F R B O : Type 0} (protocol : LockRules F R B O)
+    (opening : LockId → Option (QueueBlock (SleepState (QLockBlock B))))
+    (past : List (QueueEvent (QLockSection F R))) (parts : PartsOn P Q) where
   open parts use {below, FitsP, FitsQ, cpu_below, MayHold}
 
   -- what is stated of a block with its waiting lists is stated of its lock
-  pub locks_shown : (b : BufId) (tells : P → Option (SleepState (QBlock B)))
-      (home : Option (SleepState (QBlock B)))
+  pub locks_shown : (b : BufId) (tells : P → Option (SleepState (QLockBlock B)))
+      (home : Option (SleepState (QLockBlock B)))
       → IsObserved FitsP cpu_below MayHold tells home
-      (block_after (sleep_edited (busy_rules rules)) (inner opening) (Buffer b)
+      (block_after (sleep_edited (busy_rules protocol)) (inner opening) (Buffer b)
       (buffer_sections past))
       → IsObserved FitsQ (λ q. cpu_below (below q)) MayHold
       (λ q. option_map nested_lock_of (tells (below q))) (option_map nested_lock_of home)
-      (lock_after rules (inner (viewed nested_lock_of opening)) (Buffer b)
+      (lock_after protocol (inner (viewed nested_lock_of opening)) (Buffer b)
       (buffer_sections (renamed_events lock_call past)))
   locks_shown b tells home shown =
       let truth =
-      block_after (sleep_edited (busy_rules rules)) (inner opening) (Buffer b)
+      block_after (sleep_edited (busy_rules protocol)) (inner opening) (Buffer b)
       (buffer_sections past) in
       viewed_shown nested_lock_of FitsQ _ MayHold (λ q. tells (below q)) home truth _
-      (lock_is rules opening (Buffer b) past)
+      (lock_is protocol opening (Buffer b) past)
       (shown_on parts tells home truth shown)
 
   -- and what is stated of a pending queue is stated of it here
   pub locks_queues : (d : CpuId) (tells : P → Option (List Tid)) (home : Option (List Tid))
       → IsObserved FitsP cpu_below MayHold tells home
-      (Some (pending_by (moves_in (beneath_the_lock rules opening) past) d))
+      (Some (pending_by (moves_in (beneath_the_lock protocol opening) past) d))
       → IsObserved FitsQ (λ q. cpu_below (below q)) MayHold (λ q. tells (below q)) home
-      (Some (pending_by (moves_in (at_the_lock rules opening) (renamed_events lock_call past)) d))
+      (Some (pending_by (moves_in (at_the_lock protocol opening) (renamed_events lock_call past))
+      d))
   locks_queues d tells home shown =
       same_shown FitsQ _ MayHold (λ q. tells (below q)) home _ _
-      (ap (λ moves. Some (pending_by moves d)) (sym (same_moves rules opening past)))
+      (ap (λ moves. Some (pending_by moves d)) (sym (same_moves protocol opening past)))
       (shown_on parts tells home
-      (Some (pending_by (moves_in (beneath_the_lock rules opening) past) d)) shown)
+      (Some (pending_by (moves_in (beneath_the_lock protocol opening) past) d)) shown)

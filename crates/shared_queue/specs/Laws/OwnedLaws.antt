@@ -17,13 +17,13 @@ use Rattle.shared_queue.specs.OwnedLaws.{Observers, above_in, queue_in}
 
 -- each true value can be read
 abbrev CanRead : {A B : Type 0} → (A → Option B) → Option A → Option B → Type 0
-CanRead {A} {B} read truth seen =
-    (x : A) → truth ≡ Some x → (y : B) × (read x ≡ Some y) × (seen ≡ Some y)
+CanRead {A} {B} read truth history =
+    (x : A) → truth ≡ Some x → (y : B) × (read x ≡ Some y) × (history ≡ Some y)
 
-module _ {A B : Type 0} (read : A → Option B) (truth : Option A) (seen : Option B)
-    (can : CanRead read truth seen) where
+module _ {A B : Type 0} (read : A → Option B) (truth : Option A) (history : Option B)
+    (can : CanRead read truth history) where
   read_some : (o : Option A) → ((x : A) → o ≡ Some x → truth ≡ Some x) → (y : B)
-      → option_and_then read o ≡ Some y → seen ≡ Some y
+      → option_and_then read o ≡ Some y → history ≡ Some y
   read_some o tells y is = grind arith
 
   read_none : (o : Option A) → ((x : A) → o ≡ Some x → truth ≡ Some x)
@@ -31,21 +31,24 @@ module _ {A B : Type 0} (read : A → Option B) (truth : Option A) (seen : Optio
   read_none o tells given = grind arith
 
   -- what is stated of a block is stated of what is read from it
-  shown_read : {P : Type 0} (Fits : P → Type 0) (cpu_of : P → CpuId) (IsInside : CpuId → Type 0)
+  shown_read : {P : Type 0} (Coupled : P → Type 0) (cpu_of : P → CpuId) (IsInside : CpuId → Type 0)
       (here : P → Option A) (home : Option A)
-      → IsObserved Fits cpu_of IsInside here home truth
-      → IsObserved Fits cpu_of IsInside (λ p. option_and_then read (here p))
-      (option_and_then read home) seen
-  shown_read Fits cpu_of IsInside here home shown = record {
+      → IsObserved Coupled cpu_of IsInside here home truth
+      → IsObserved Coupled cpu_of IsInside (λ p. option_and_then read (here p))
+      (option_and_then read home) history
+  shown_read Coupled cpu_of IsInside here home shown = record {
     by_machine = λ y tells. read_some home shown.by_machine y tells;
-    by_part = λ p y fits tells. read_some (here p) (λ x told. shown.by_part p x fits told) y tells;
+    by_part =
+        λ p y coupled tells. read_some (here p)
+        (λ x abstract_answer. shown.by_part p x coupled abstract_answer) y tells;
     somewhere = λ none. let at = shown.somewhere (read_none home shown.by_machine none) in record {
       cpu = at.cpu;
       known = at.known;
       inside = at.inside;
       has =
-          λ p same fits none. at.has p same fits
-          (read_none (here p) (λ x told. shown.by_part p x fits told) none);
+          λ p same coupled none. at.has p same coupled
+          (read_none (here p) (λ x abstract_answer. shown.by_part p x coupled abstract_answer)
+          none);
     };
   }
 
@@ -63,31 +66,32 @@ can_read_queue d (Some (Queue old homes)) there kind truth queue is x tells =
     (queue, ap (option_and_then queue_in) (sym tells ∙ is), refl)
 can_read_queue d (Some (Above block)) there kind truth queue is x tells = absurd kind
 
-module _ {P E B O : Type 0} (rules : Rules E B O) (mv : MoveRules E O)
-    (opening : LockId → Option (QueueBlock B)) (those : Observers P rules mv opening) where
-  open those use {past, starts, lawful, Fits, cpu_of, IsInside}
+module _ {P E B O : Type 0} (protocol : Rules E B O) (mv : MoveRules E O)
+    (opening : LockId → Option (QueueBlock B)) (those : Observers P protocol mv opening) where
+  open those use {past, starts, lawful, Coupled, cpu_of, IsInside}
 
   -- what is stated of a buffer's lock is stated of the buffer
   pub buffer_shown : (b : BufId) (here : P → Option (QueueBlock B)) (home : Option (QueueBlock B))
-      → IsObserved Fits cpu_of IsInside here home
-      (block_after (queue_edited rules.edited) opening (Buffer b) past)
-      → IsObserved Fits cpu_of IsInside (λ p. option_and_then above_in (here p))
+      → IsObserved Coupled cpu_of IsInside here home
+      (block_after (queue_edited protocol.edited) opening (Buffer b) past)
+      → IsObserved Coupled cpu_of IsInside (λ p. option_and_then above_in (here p))
       (option_and_then above_in home)
-      (block_after rules.edited (inner opening) (Buffer b) (buffer_sections (map event_of past)))
+      (block_after protocol.edited (inner opening) (Buffer b) (buffer_sections (map event_of past)))
   buffer_shown b here home shown =
       shown_read above_in _ _
-      (can_read_above _ _ (buffer_block rules mv opening starts b past lawful)) Fits cpu_of IsInside
+      (can_read_above _ _ (buffer_block protocol mv opening starts b past lawful)) Coupled cpu_of
+      IsInside
       here home shown
 
   -- what is stated of a pending queue's lock is stated of the queue
-  pub queue_shown : WakesSleepers rules mv → (d : CpuId) → IsSome (opening (Pending d))
+  pub queue_shown : WakesSleepers protocol mv → (d : CpuId) → IsSome (opening (Pending d))
       → (here : P → Option (QueueBlock B)) (home : Option (QueueBlock B))
-      → IsObserved Fits cpu_of IsInside here home
-      (block_after (queue_edited rules.edited) opening (Pending d) past)
-      → IsObserved Fits cpu_of IsInside (λ p. option_and_then queue_in (here p))
+      → IsObserved Coupled cpu_of IsInside here home
+      (block_after (queue_edited protocol.edited) opening (Pending d) past)
+      → IsObserved Coupled cpu_of IsInside (λ p. option_and_then queue_in (here p))
       (option_and_then queue_in home)
-      (Some (pending_by (moves_in (kernel rules mv opening) (map event_of past)) d))
+      (Some (pending_by (moves_in (kernel protocol mv opening) (map event_of past)) d))
   queue_shown wakes d there here home shown = shown_read queue_in _ _
       (can_read_queue d (opening (Pending d)) there (starts.kinds (Pending d)) _ _
-      (queue_block rules mv opening starts wakes d past lawful)) Fits cpu_of
+      (queue_block protocol mv opening starts wakes d past lawful)) Coupled cpu_of
       IsInside here home shown

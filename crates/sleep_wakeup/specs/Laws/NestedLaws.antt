@@ -15,7 +15,7 @@ use Rattle.layer_traits.specs.{Threads.Places.where_is, Polling.Plans.{is_in_sec
 use Rattle.layer_traits.specs.Blocks.QueueBlocks.{StartsWell, homes_in, inner}
 use Rattle.layer_traits.specs.Layers.Queues.{Kernel, QueueAllowed, buffer_sections, kernel}
 use Rattle.layer_traits.specs.Layers.{Queues.moves_in, Scheds.EditStays, SleepLaw.MaySleep}
-use Rattle.layer_traits.specs.Layers.{SleepLaw.sleep_kernel, Sleeping.{IsAwake, NobodySleeps}}
+use Rattle.layer_traits.specs.Layers.{SleepLaw.sleep_kernel, Sleeping.{IsAwake, NoSleepers}}
 use Rattle.layer_traits.specs.Layers.Sleeping.{SleepRules, SleepState, wait_list_at, sleep_answer}
 use Rattle.layer_traits.specs.Layers.Sleeping.{sleep_edited, sleep_moves, sleep_rules}
 use Rattle.layer_traits.specs.Views.Renaming.{renamed_edit, renamed_events, viewed}
@@ -33,7 +33,7 @@ use Rattle.layer_traits.specs.declared.scheds.SchedCall.TheVariants as call
 
 -- Sections.
 
-module _ {E B O : Type 0} (rules : SleepRules E B O)
+module _ {E B O : Type 0} (protocol : SleepRules E B O)
     (opening : LockId → Option (SleepBlock B)) where
   -- the sections under the names of the layer above
   abbrev above : List (Section (SleepEdit E)) → List (Section E)
@@ -41,79 +41,80 @@ module _ {E B O : Type 0} (rules : SleepRules E B O)
 
   -- the block of a lock is the view of the lower layer's block
   state_after : (lock : LockId) (past : List (Section (SleepEdit E)))
-      → block_after (sleep_edited rules) (states opening) lock (above past)
-      ≡ option_map state_of (block_after (nested_edited rules) opening lock past)
+      → block_after (sleep_edited protocol) (states opening) lock (above past)
+      ≡ option_map state_of (block_after (nested_edited protocol) opening lock past)
   state_after lock past =
-      block_viewed (table_of (nested_rules rules)) (table_of (sleep_rules rules))
+      block_viewed (table_of (nested_rules protocol)) (table_of (sleep_rules protocol))
       (record {
         name = slept_edit;
         view = state_of;
-        told = λ (o : Outcome O). o;
+        abstract_answer = λ (o : Outcome O). o;
         edits = λ d a. refl;
         answers = λ d a. refl;
       }) opening lock past
 
   answer_seen : (d : SleepEdit E) (o : Option (SleepBlock B))
-      → option_map (sleep_answer rules (slept_edit d)) (option_map state_of o)
-      ≡ option_map (nested_answer rules d) o
+      → option_map (sleep_answer protocol (slept_edit d)) (option_map state_of o)
+      ≡ option_map (nested_answer protocol d) o
   answer_seen d o = grind arith
 
   -- and so is its result
   out_after : (past : List (Section (SleepEdit E))) (s : Section (SleepEdit E))
-      → option_map (sleep_answer rules (slept_edit s.edit))
-      (block_after (sleep_edited rules) (states opening) s.lock (above past))
-      ≡ option_map (nested_answer rules s.edit)
-      (block_after (nested_edited rules) opening s.lock past)
+      → option_map (sleep_answer protocol (slept_edit s.edit))
+      (block_after (sleep_edited protocol) (states opening) s.lock (above past))
+      ≡ option_map (nested_answer protocol s.edit)
+      (block_after (nested_edited protocol) opening s.lock past)
   out_after past s = grind (arith, state_after, answer_seen)
 
   move_out : (lock : LockId) (d : SleepEdit E) (o : Option (Outcome O))
-      → edit_move (sleep_moves rules) lock (slept_edit d) o
-      ≡ edit_move (nested_moves rules) lock d o
+      → edit_move (sleep_moves protocol) lock (slept_edit d) o
+      ≡ edit_move (nested_moves protocol) lock d o
   move_out lock d o = grind arith
 
   -- the sections move threads alike
   pub moves_above : (past : List (Section (SleepEdit E)))
-      → section_moves (sleep_rules rules) (sleep_moves rules) (states opening) (above past)
-      ≡ section_moves (nested_rules rules) (nested_moves rules) opening past
+      → section_moves (sleep_rules protocol) (sleep_moves protocol) (states opening) (above past)
+      ≡ section_moves (nested_rules protocol) (nested_moves protocol) opening past
   moves_above [] = refl
   moves_above (s ∷ past) = grind (arith, out_after, move_out, moves_above past)
 
   -- the callers of allowed sections are awake
   pub awake_above : (past : List (Section (SleepEdit E)))
-      → IsLawful (NestedAllowed rules opening) past
-      → IsLawful (IsAwake rules (states opening)) (above past)
+      → IsLawful (NestedAllowed protocol opening) past
+      → IsLawful (IsAwake protocol (states opening)) (above past)
   awake_above [] lawful = tt
   awake_above (s ∷ past) lawful = (lawful.0.awake, awake_above past lawful.1)
 
 -- a thread that an allowed section wakes is asleep
-pub nested_wakes : {E B O : Type 0} (rules : SleepRules E B O)
-    → WakesSleepers (nested_rules rules) (nested_moves rules)
-nested_wakes rules opening past s out u lawful allowed answers wakes =
-    rw (← moves_above rules opening past)
-    (section_wakes rules (states opening) (map (renamed_section slept_edit) past)
+pub nested_wakes : {E B O : Type 0} (protocol : SleepRules E B O)
+    → WakesSleepers (nested_rules protocol) (nested_moves protocol)
+nested_wakes protocol opening past s out u lawful allowed answers wakes =
+    rw (← moves_above protocol opening past)
+    (section_wakes protocol (states opening) (map (renamed_section slept_edit) past)
     (renamed_section slept_edit s) out u
-    (awake_above rules opening past lawful) allowed.start (out_after rules opening past s ∙ answers)
+    (awake_above protocol opening past lawful) allowed.start
+    (out_after protocol opening past s ∙ answers)
     wakes)
 
 -- Histories. The lower kernel is that of the nested edits over this opening, and the kernel here
 -- that of the layer's own edits.
 
-module _ {E B O : Type 0} (rules : SleepRules E B O)
+module _ {E B O : Type 0} (protocol : SleepRules E B O)
     (opening : LockId → Option (QueueBlock (SleepBlock B))) where
   -- the kernel of the lower layer
   abbrev pub beneath : Kernel (SleepEdit E) (SleepBlock B) (Outcome O)
-  beneath = kernel (nested_rules rules) (nested_moves rules) opening
+  beneath = kernel (nested_rules protocol) (nested_moves protocol) opening
 
   -- the kernel of this layer
   abbrev pub here : Kernel E (SleepState B) (Outcome O)
-  here = sleep_kernel rules (viewed state_of opening)
+  here = sleep_kernel protocol (viewed state_of opening)
 
   inner_states : (λ (lock : LockId). inner (viewed state_of opening) lock) ≡ states (inner opening)
   inner_states = λ i lock. inner_viewed state_of opening lock i
 
   pub allowed_here : (past : List (Section (SleepEdit E))) (s : Section (SleepEdit E))
-      → NestedAllowed rules (inner opening) past s
-      → rules.allowed (inner (viewed state_of opening)) (map (renamed_section slept_edit) past)
+      → NestedAllowed protocol (inner opening) past s
+      → protocol.allowed (inner (viewed state_of opening)) (map (renamed_section slept_edit) past)
       (renamed_section slept_edit s)
   allowed_here past s allowed = rw inner_states allowed.upper
 
@@ -139,13 +140,13 @@ module _ {E B O : Type 0} (rules : SleepRules E B O)
   same_moves past = moves_renamed _ _ _ _ nested_wraps past
 
   -- the places of threads here are those of the lower layer
-  pub nested_stands : (c : CpuId) (past : List (QueueEvent (SleepEdit E))) (own : Threads)
-      → Stands (homes_in opening) c (moves_in beneath past) own
+  pub nested_stands : (c : CpuId) (past : List (QueueEvent (SleepEdit E))) (local : Threads)
+      → Stands (homes_in opening) c (moves_in beneath past) local
       → Stands (homes_in (viewed state_of opening)) c
-      (moves_in here (renamed_events slept_edit past)) own
-  nested_stands c past own stands =
+      (moves_in here (renamed_events slept_edit past)) local
+  nested_stands c past local stands =
       transport (λ i. Stands (sym (homes_viewed state_of opening) i) c (sym (same_moves past) i)
-      own) stands
+      local) stands
 
   -- each move of a thread starts at its place
   pub nested_moves_legal : (past : List (QueueEvent (SleepEdit E)))
@@ -154,31 +155,34 @@ module _ {E B O : Type 0} (rules : SleepRules E B O)
       (moves_in here (renamed_events slept_edit past))
   nested_moves_legal past lawful =
       transport (λ i. AreMoves (sym (homes_viewed state_of opening) i) (sym (same_moves past) i))
-      (moves_lawful beneath (nested_wakes rules) past lawful)
+      (moves_lawful beneath (nested_wakes protocol) past lawful)
 
   -- the list on which a thread sleeps, in terms of the sections of the layer above, is the list
   -- that its place names
   asleep_here : (past : List (QueueEvent (SleepEdit E))) (t : Tid)
       → IsLawful (QueueAllowed beneath) past
       → wait_channel_of (where_is (homes_in opening) (moves_in beneath past) t)
-      ≡ asleep_by (section_moves (sleep_rules rules) (sleep_moves rules) (states (inner opening))
+      ≡ asleep_by (section_moves (sleep_rules protocol) (sleep_moves protocol)
+      (states (inner opening))
       (map (renamed_section slept_edit) (buffer_sections past))) t
   asleep_here past t lawful =
       grind (arith, asleep_wait_channel, moves_lawful, nested_wakes, sections_asleep, moves_above)
 
   -- the waiting lists agree with the places
   pub nested_lists : (past : List (QueueEvent (SleepEdit E))) → IsLawful (QueueAllowed beneath) past
-      → NobodySleeps (states (inner opening))
-      → ListsAgree rules (viewed state_of opening) (renamed_events slept_edit past)
+      → NoSleepers (states (inner opening))
+      → ListsAgree protocol (viewed state_of opening) (renamed_events slept_edit past)
   nested_lists past lawful nobody lock line t =
       ap (λ (o : LockId → Option (SleepState B)). count_in t
-      (wait_list_at line (block_after (sleep_edited rules) o lock
+      (wait_list_at line (block_after (sleep_edited protocol) o lock
       (buffer_sections (renamed_events slept_edit past))))) inner_states ∙ (ap
       (λ sections. count_in t
-      (wait_list_at line (block_after (sleep_edited rules) (states (inner opening)) lock sections)))
+      (wait_list_at line (block_after (sleep_edited protocol) (states (inner opening)) lock
+      sections)))
       (sections_renamed slept_edit past)
-      ∙ (lists_agree rules (states (inner opening))
-      (map (renamed_section slept_edit) (buffer_sections past)) (awake_above rules (inner opening)
+      ∙ (lists_agree protocol (states (inner opening))
+      (map (renamed_section slept_edit) (buffer_sections past))
+      (awake_above protocol (inner opening)
       (buffer_sections past) (upper_lawful beneath past lawful)) nobody lock line t
       ∙ (ap (λ p. one_if (is_at lock line p)) (sym (asleep_here past t lawful))
       ∙ λ i. one_if (is_at lock line
@@ -187,32 +191,34 @@ module _ {E B O : Type 0} (rules : SleepRules E B O)
 
   -- A section that may begin here may begin in the lower layer, and stays allowed there.
 
-  pub nested_stays : (c : CpuId) (past : List (QueueEvent (SleepEdit E))) (own : Threads)
+  pub nested_stays : (c : CpuId) (past : List (QueueEvent (SleepEdit E))) (local : Threads)
       (b : BufId) (e : E) → StartsWell opening
-      → IsLawful (QueueAllowed beneath) past → NobodySleeps (states (inner opening))
-      → Stands (homes_in opening) c (moves_in beneath past) own
-      → MaySleep here c (renamed_events slept_edit past) own b e
+      → IsLawful (QueueAllowed beneath) past → NoSleepers (states (inner opening))
+      → Stands (homes_in opening) c (moves_in beneath past) local
+      → MaySleep here c (renamed_events slept_edit past) local b e
       → EditStays beneath c past (call.OnBuffer b (as_edit e))
-  nested_stays c past own b e starts lawful nobody stands may more others legal =
-      let moving = moves_lawful beneath (nested_wakes rules) (more ++ past) legal in
+  nested_stays c past local b e starts lawful nobody stands may more others legal =
+      let moving = moves_lawful beneath (nested_wakes protocol) (more ++ past) legal in
       let now =
-      subst (λ moves. Stands (homes_in opening) c moves own)
+      subst (λ moves. Stands (homes_in opening) c moves local)
       (sym (moves_append beneath more past))
-      (stands_others (homes_in opening) c (moves_over beneath more past) (moves_in beneath past) own
+      (stands_others (homes_in opening) c (moves_over beneath more past) (moves_in beneath past)
+      local
       (moves_others beneath c more past others)
       (subst (λ moves. AreMoves (homes_in opening) moves) (moves_append beneath more past) moving)
       stands) in
       let at =
-      current_at (homes_in opening) c (moves_in beneath (more ++ past)) own moving now
-      (rules.caller e) may.current in
+      current_at (homes_in opening) c (moves_in beneath (more ++ past)) local moving now
+      (protocol.caller e) may.current in
       record {
         start = nobody;
         awake = record {
-          awake = sym (asleep_here (more ++ past) (rules.caller e) legal) ∙ ap wait_channel_of at.1;
+          awake =
+              sym (asleep_here (more ++ past) (protocol.caller e) legal) ∙ ap wait_channel_of at.1;
           small =
               omega (
                 arith,
-                slice_get_within (homes_in opening) (rules.caller e).0 c at.0,
+                slice_get_within (homes_in opening) (protocol.caller e).0 c at.0,
                 starts.room,
               );
         };

@@ -10,7 +10,7 @@ use Rattle.event_log.specs.{Sections.{Section, block_after, sections_in}, WordsL
 use Rattle.event_log.specs.WordsLog.{Idle, Waiting, Holding, lock_phase}
 use Rattle.event_log.proofs.{GrantWords.phase_grants, Tickets.phase_acts, Observed.TicketOf}
 use Rattle.{event_log.proofs.Observed.phase_of, layer_traits.specs.declared.edits.Mark.Mark}
-use Rattle.layer_traits.specs.Protocols.GrantProtocol.{GrantMayCome, SomeoneHasIt, grant_sections}
+use Rattle.layer_traits.specs.Protocols.GrantProtocol.{GrantMayCome, IsHeldBySome, grant_sections}
 use Rattle.layer_traits.specs.Protocols.{OneLock.SomeoneInside, WordsProtocol.{MayCome, edit_of}}
 use Rattle.layer_traits.{specs.Protocols.WordsProtocol.sections, proofs.PlanLemmas.sections_acts}
 use Rattle.{layer_traits.proofs.Seen.sections_allowed, spinlock.specs.OwnedLaws.SomeoneHolds}
@@ -20,10 +20,11 @@ pub outside_of : (s : LockPhase) → phase_of s ≡ Rests → s ≡ Idle
 outside_of s rests = grind arith
 
 -- a CPU that waits has the ticket of its ticket index
-pub line_waiting_with : (s : LockPhase) (lock : LockId) (spot ticket : ℕ) → phase_of s ≡ Waits lock
-    → TicketOf s spot → ticket ≡ spot % 2 ^ 64
+pub line_waiting_with : (s : LockPhase) (lock : LockId) (ticket_index ticket : ℕ)
+    → phase_of s ≡ Waits lock
+    → TicketOf s ticket_index → ticket ≡ ticket_index % 2 ^ 64
     → s ≡ Waiting lock ticket
-line_waiting_with s lock spot ticket waits has is = grind arith
+line_waiting_with s lock ticket_index ticket waits has is = grind arith
 
 -- a CPU that holds a lock is inside it
 pub inside_of : (s : LockPhase) (lock : LockId) → phase_of s ≡ Holds lock
@@ -84,7 +85,7 @@ words_blocks edited opening log lock (Some block) is =
 -- and the same of a machine of locks with grant words
 pub grants_blocks : {E B : Type 0} (edited : E → B → B) (opening : LockId → Option B)
     (log : List (GrantEvent (Mark E))) (lock : LockId) (home : Option B)
-    → MatchOption home (SomeoneHasIt lock log)
+    → MatchOption home (IsHeldBySome lock log)
     (λ block. block_after edited opening lock (grant_sections log) ≡ Some block)
     → MatchOption home (SomeoneHolds lock (acts_of_grants edit_of log))
     (λ block. block_after edited opening lock (sections_in (acts_of_grants edit_of log))

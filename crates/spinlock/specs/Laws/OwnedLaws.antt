@@ -12,32 +12,33 @@ use Rattle.spinlock.specs.declared.stages.TicketPhase.{TicketPhase, TheVariants.
 use Rattle.spinlock.specs.{declared.stages.TicketPhase.TheVariants.Holding, OwnedLaws.SomeoneHolds}
 use Rattle.spinlock.specs.Stages.{StageFits, held_block}
 
-module _ {E B O : Type 0} (rules : Rules E B O) (opening : LockId → Option B)
+module _ {E B O : Type 0} (protocol : Rules E B O) (opening : LockId → Option B)
     (acts : List (Action E)) (lock : LockId) where
   abbrev truth : Option B
-  truth = block_after rules.edited opening lock (sections_in acts)
+  truth = block_after protocol.edited opening lock (sections_in acts)
 
   -- a block that a stage holds is the lock's
-  held_is : (cpu : CpuId) (stage : TicketPhase E B) (x : B) → StageFits rules opening acts cpu stage
+  held_is : (cpu : CpuId) (stage : TicketPhase E B) (x : B)
+      → StageFits protocol opening acts cpu stage
       → held_block lock stage ≡ Some x → truth ≡ Some x
-  held_is cpu Out x fits is = absurd cc
-  held_is cpu (Waiting at edit ticket) x fits is = absurd cc
-  held_is cpu (Holding at edit block) x fits is = go (same_lock lock at) refl is
+  held_is cpu Out x coupled is = absurd cc
+  held_is cpu (Waiting at edit ticket) x coupled is = absurd cc
+  held_is cpu (Holding at edit block) x coupled is = go (same_lock lock at) refl is
     where
       go : (b : Bool) → same_lock lock at ≡ b → (if b then Some block else None) ≡ Some x
           → truth ≡ Some x
-      go true same is = rw (same_lock_true lock at same) fits.2 ∙ is
+      go true same is = rw (same_lock_true lock at same) coupled.2 ∙ is
       go false other is = absurd cc
 
   -- a CPU that holds a lock holds its block
   holder_has : (cpu : CpuId) → phase cpu acts ≡ Holds lock → (stage : TicketPhase E B)
-      → StageFits rules opening acts cpu stage
+      → StageFits protocol opening acts cpu stage
       → held_block lock stage ≡ None → ⊥
-  holder_has cpu holds Out fits none = absurd (cc (holds, fits))
-  holder_has cpu holds (Waiting at edit drawn) fits none = let waits =
-      fits.0.0 in absurd (cc (holds, waits))
-  holder_has cpu holds (Holding at edit block) fits none =
-      let both : Holds lock ≡ Holds at = sym holds ∙ fits.0 in
+  holder_has cpu holds Out coupled none = absurd (cc (holds, coupled))
+  holder_has cpu holds (Waiting at edit drawn) coupled none = let waits =
+      coupled.0.0 in absurd (cc (holds, waits))
+  holder_has cpu holds (Holding at edit block) coupled none =
+      let both : Holds lock ≡ Holds at = sym holds ∙ coupled.0 in
       let one : lock ≡ at = cc both in
       let same : same_lock lock at ≡ true = rw (← one) (same_lock_self lock) in
       let held : Some block ≡ None = rw same at none in absurd (cc held)
@@ -47,14 +48,14 @@ module _ {E B O : Type 0} (rules : Rules E B O) (opening : LockId → Option B)
       (stage_of : P → TicketPhase E B) (home : Option B)
       → AreLegal acts
       → MatchOption home (SomeoneHolds lock acts)
-      (λ block. block_after rules.edited opening lock (sections_in acts) ≡ Some block)
+      (λ block. block_after protocol.edited opening lock (sections_in acts) ≡ Some block)
       → IsObserved (λ (p : P). ActsFor (cpu_of p)
-      × StageFits rules opening acts (cpu_of p) (stage_of p)) cpu_of
+      × StageFits protocol opening acts (cpu_of p) (stage_of p)) cpu_of
       (λ d. is_in_section (phase d acts) ≡ true) (λ p. held_block lock (stage_of p)) home
-      (block_after rules.edited opening lock (sections_in acts))
+      (block_after protocol.edited opening lock (sections_in acts))
   spin_lock_shows {P} ActsFor cpu_of stage_of home legal tells = record {
     by_machine = by_machine home tells;
-    by_part = λ p x fits is. held_is (cpu_of p) (stage_of p) x fits.1 is;
+    by_part = λ p x coupled is. held_is (cpu_of p) (stage_of p) x coupled.1 is;
     somewhere = somewhere home tells;
   }
     where
@@ -65,21 +66,21 @@ module _ {E B O : Type 0} (rules : Rules E B O) (opening : LockId → Option B)
 
       held : SomeoneHolds lock acts
           → IsHeld (λ (p : P). ActsFor (cpu_of p)
-          × StageFits rules opening acts (cpu_of p) (stage_of p)) cpu_of
+          × StageFits protocol opening acts (cpu_of p) (stage_of p)) cpu_of
           (λ d. is_in_section (phase d acts) ≡ true) (λ p. held_block lock (stage_of p))
       held holds = record {
         cpu = holds.0;
         known =
             cpu_is_known acts legal holds.0 lock (ap (is_at lock) holds.1 ∙ same_lock_self lock);
         inside = ap is_in_section holds.1;
-        has = λ p same fits none. holder_has holds.0 holds.1 (stage_of p)
-            (subst (λ c. StageFits rules opening acts c (stage_of p)) same fits.1) none;
+        has = λ p same coupled none. holder_has holds.0 holds.1 (stage_of p)
+            (subst (λ c. StageFits protocol opening acts c (stage_of p)) same coupled.1) none;
       }
 
       somewhere : (h : Option B)
           → MatchOption h (SomeoneHolds lock acts) (λ block. truth ≡ Some block) → h ≡ None
           → IsHeld (λ (p : P). ActsFor (cpu_of p)
-          × StageFits rules opening acts (cpu_of p) (stage_of p)) cpu_of
+          × StageFits protocol opening acts (cpu_of p) (stage_of p)) cpu_of
           (λ d. is_in_section (phase d acts) ≡ true) (λ p. held_block lock (stage_of p))
       somewhere None holds none = held holds
       somewhere (Some block) is none = absurd cc

@@ -9,13 +9,15 @@ use Rattle.spinlock.specs.declared.stages.TicketPhase.{TicketPhase, TheVariants.
 use Rattle.spinlock.specs.declared.stages.TicketPhase.TheVariants.{Holding}
 
 -- a section is under way exactly while the CPU waits at a lock or holds one
-pub stage_busy : {E B O : Type 0} (rules : Rules E B O) (opening : LockId → Option B)
+pub stage_busy : {E B O : Type 0} (protocol : Rules E B O) (opening : LockId → Option B)
     (acts : List (Action E)) (cpu : CpuId) (stage : TicketPhase E B)
-    → StageFits rules opening acts cpu stage
+    → StageFits protocol opening acts cpu stage
     → is_some (stage_section cpu stage) ≡ is_in_section (phase cpu acts)
-stage_busy rules opening acts cpu Out fits = sym (ap is_in_section fits)
-stage_busy rules opening acts cpu (Waiting lock edit ticket) fits = sym (ap is_in_section fits.0.0)
-stage_busy rules opening acts cpu (Holding lock edit block) fits = sym (ap is_in_section fits.0)
+stage_busy protocol opening acts cpu Out coupled = sym (ap is_in_section coupled)
+stage_busy protocol opening acts cpu (Waiting lock edit ticket) coupled =
+    sym (ap is_in_section coupled.0.0)
+stage_busy protocol opening acts cpu (Holding lock edit block) coupled =
+    sym (ap is_in_section coupled.0)
 
 -- the sections of legal actions are of CPUs that a machine may have
 pub sections_known : {E : Type 0} (acts : List (Action E)) → AreLegal acts

@@ -12,22 +12,23 @@ stored_are = record {
   begins = λ w first. (first 0 (omega arith), first 1 (omega arith));
   same =
       λ taken given w v equal
-      fits. (equal 0 (omega arith) ∙ fits.0, equal 1 (omega arith) ∙ fits.1);
-  next_is = λ taken given w fits. fits.0;
+      coupled. (equal 0 (omega arith) ∙ coupled.0, equal 1 (omega arith) ∙ coupled.1);
+  next_is = λ taken given w coupled. coupled.0;
   took =
-      λ taken given w v fits next
+      λ taken given w v coupled next
       others. (
-        next ∙ next_rests taken (w 0) fits.0,
+        next ∙ next_rests taken (w 0) coupled.0,
         others 1 (omega arith) (λ e. omega arith)
-            ∙ fits.1,
+            ∙ coupled.1,
       );
   hits =
-      λ taken given w fits ticket spot ahead close is. same_rests given spot (w 1) ticket ahead
-      close fits.1 is;
+      λ taken given w coupled ticket ticket_index ahead close is. same_rests given ticket_index
+      (w 1) ticket ahead
+      close coupled.1 is;
   gave =
-      λ taken given w v fits ticket is serving
+      λ taken given w v coupled ticket is serving
       others. (
-        others 0 (omega arith) (λ e. omega arith) ∙ fits.0,
+        others 0 (omega arith) (λ e. omega arith) ∙ coupled.0,
         serving
             ∙ next_rests given ticket is,
       );

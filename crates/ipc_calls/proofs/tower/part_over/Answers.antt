@@ -4,8 +4,8 @@ use Rattle.{event_log.specs.declared.ids.LockId.TheVariants.Pending, queuing_loc
 use Rattle.ipc_calls.proofs.tower.part_over.Goals as goal
 
 -- nothing was done in the machine, and its locks are the tower's
-pub returns-clause-fits : goal.returns-clause-fits
-returns-clause-fits g c =
+pub returns-clause-coupled : goal.returns-clause-coupled
+returns-clause-coupled g c =
     let m = c.args.m.now in
     let opening = g.L.Layer.opening m in
     let most = c.requires.buffers in
@@ -13,7 +13,7 @@ returns-clause-fits g c =
     let boots = boots_well (viewed nested_lock_of (viewed state_of opening)) c.args.caps.now c.requires.locks few in
     let caps = caps_are (viewed nested_lock_of (viewed state_of opening)) c.args.caps.now c.requires.locks few in
     let homes_are = homes_viewed nested_lock_of (viewed state_of opening) ∙ homes_viewed state_of opening ∙ c.requires.homes in
-    c.part.ensures.fits m (
+    c.part.ensures.coupled m (
       (
         ((c.requires.acts, c.requires.starts), boots),
         c.requires.outside,

@@ -15,7 +15,7 @@ module _ (g : Over) (c : After-as_slice g) where
       let made = c.in_ok-system.ensures in
       let run = c.in_ok-run.ensures in
       run_of g.I.CallLayer.IsStepwise c.args.boot.now c.args.steps.now c.in_ok-system.system c.run.new.self opened run.ran made.boots made.planned
-      run.table run.sound run.observed run.plan run.one_order run.follow run.stay run.once
+      run.table run.sound run.observed run.plan run.linearization run.follow run.stay run.once
 
 pub returns-in_err-run : goal.returns-in_err-run
 returns-in_err-run g c =

@@ -4,18 +4,18 @@ use Rattle.{tracer.specs.Sinks.Outs, mctower.specs.declared.{refusals.Refusal.{R
 use Rattle.mctower.specs.{declared.{serve.outcomes.Done.TheVariants.Ran, tell.state_lines.State.State, run.run_faults.Fault.Fault}, State.IsStateOf}
 use Rattle.mctower.specs.{Running.{IsPrinted, IsRunOf, NoCondition, RunsTextOn, Tells}, Output.{Output, between}, Serve.{OfPlan, PutsRun, RefusedBy}}
 use Rattle.mctower.{specs.{Serve.{ReportsRun, RunsTrace, ServesPlan}, Refusals.{from_fault, lacks_memory}}, proofs.RunningLemmas.all_put}
-use Rattle.{mctower.proofs.TabledLemmas.state_of_run, cpu.specs.Claims.Shown}
+use Rattle.{mctower.proofs.TabledLemmas.state_of_run, cpu.specs.Claims.SystemView}
 use Rattle.mctower.specs.declared.run.run_faults.Fault.TheVariants as run
 use Rattle.mctower.proofs.serve.run_bytes.Goals as goal
 
 -- what is reported of a run whose text was written, and nothing after it
-told : (plan : BootPlan) (steps : List CpuId) (s : Shown) (state : State) (answer : Result Done Refusal) (failed : Bool) → IsRunOf NoCondition plan steps s
+told : (plan : BootPlan) (steps : List CpuId) (s : SystemView) (state : State) (answer : Result Done Refusal) (failed : Bool) → IsRunOf NoCondition plan steps s
     → IsStateOf NoCondition s state → answer ≡ (if failed then Err WriteFault else Ok (Ran state)) → ReportsRun plan steps s answer failed
 told plan steps s state answer false ran is given = (state, is, state_of_run NoCondition plan steps s ran tt state is, given)
 told plan steps s state answer true ran is given = given
 
 -- the trace of a run whose text was written, if this is all that was written
-traced : (steps : List CpuId) (plan : BootPlan) (s : Shown) (answer : Result Done Refusal) (first whole : Output)
+traced : (steps : List CpuId) (plan : BootPlan) (s : SystemView) (answer : Result Done Refusal) (first whole : Output)
     (is : IsPrinted NoCondition plan steps s first) → PutsRun plan steps s is.out.text answer whole → RunsTrace plan steps answer whole
 traced steps plan s answer first whole is put = record {
   cpus = is.cpus;
@@ -30,7 +30,7 @@ traced steps plan s answer first whole is put = record {
 }
 
 -- the text of a run is written, and then nothing more
-ran_out : (steps : List CpuId) (ran : Result Shown Fault) (state : State) (read : Result BootPlan BootError) (answer : Result Done Refusal)
+ran_out : (steps : List CpuId) (ran : Result SystemView Fault) (state : State) (read : Result BootPlan BootError) (answer : Result Done Refusal)
     (first whole : Output) → RunsTextOn NoCondition read steps ran first → Tells ran (Ok state)
     → answer ≡ (if whole.failed then Err WriteFault else Ok (Ran state)) → Outs whole.failed first.new whole.new [] → first.old ≡ whole.old
     → (whole.failed ≡ false → whole.flushed ≡ true) → OfPlan (ServesPlan steps) read answer whole
@@ -54,7 +54,7 @@ fault_ran steps (Err e) (run.Boot f) out runs = inr (ap (λ x. Err (BadPlan x)) 
 fault_ran steps read other out runs = absurd runs
 
 -- and one of which a fault is reported
-fault_told : (steps : List CpuId) (ran : Result Shown Fault) (read : Result BootPlan BootError) (fault : Fault) (out : Output)
+fault_told : (steps : List CpuId) (ran : Result SystemView Fault) (read : Result BootPlan BootError) (fault : Fault) (out : Output)
     → RunsTextOn NoCondition read steps ran out → Tells ran (Err fault)
     → RefusedBy lacks_memory (Err (from_fault fault)) out ⊎ OfPlan (ServesPlan steps) read (Err (from_fault fault)) out
 fault_told steps (Ok s) read fault out runs is = absurd is
@@ -72,7 +72,8 @@ pub returns-in-Ok-run_plan-clause-runs : goal.returns-in-Ok-run_plan-clause-runs
 returns-in-Ok-run_plan-clause-runs g c =
     inr (inr (
       c.in-Ok.ensures.cases.1,
-      rw c.in-Ok.ensures.cases.0 at (ran_out c.args.steps.now _ c.in-Ok-run_plan.state (plan_of c.in-Ok.plan.now) c.put_out.result
-          (between g.O.Write.contents c.args.out.now c.run_plan.new.out) (between g.O.Write.contents c.args.out.now c.put_out.new.out)
-          c.in-Ok-run_plan.ensures.runs c.in-Ok-run_plan.ensures.tells c.put_out.ensures.put.0 c.put_out.ensures.put.1.0 refl c.put_out.ensures.put.1.1),
+      rw c.in-Ok.ensures.cases.0 at (ran_out c.args.steps.now _ c.in-Ok-run_plan.state (plan_of c.in-Ok.plan.now) c.write_output.result
+          (between g.O.Write.contents c.args.out.now c.run_plan.new.out) (between g.O.Write.contents c.args.out.now c.write_output.new.out)
+          c.in-Ok-run_plan.ensures.runs c.in-Ok-run_plan.ensures.tells c.write_output.ensures.put.0 c.write_output.ensures.put.1.0 refl
+          c.write_output.ensures.put.1.1),
     ))

@@ -19,9 +19,10 @@ nobody_there queue given = grind arith
 
 -- of a closed buffer's two sides, the own one is woken as long as a thread waits there, and
 -- otherwise the other
-last_gone : (own : Side) (x : PlainState) (v : Bool) → is_some (first (waiting_on own x)) ≡ v
-    → leaving_side (if v then own else far_side own) (first (waiting_on (if v then own else far_side own) x)) ≡ Nobody → (x.receivers ≡ []) × (x.senders ≡ [])
-last_gone own x v is given = grind (arith, nobody_first, nobody_there)
+last_gone : (local : Side) (x : PlainState) (v : Bool) → is_some (first (waiting_on local x)) ≡ v
+    → leaving_side (if v then local else far_side local) (first (waiting_on (if v then local else far_side local) x)) ≡ Nobody
+    → (x.receivers ≡ []) × (x.senders ≡ [])
+last_gone local x v is given = grind (arith, nobody_first, nobody_there)
 
 pub returns-clause-wakes : goal.returns-clause-wakes
 returns-clause-wakes c = grind (arith, last_gone)

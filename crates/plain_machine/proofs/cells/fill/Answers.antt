@@ -17,6 +17,6 @@ loop-lock-preserved g c =
       ends = tt;
       all = append_assoc c.loop-lock.yielded (o ∷ []) rest ∙ ap (λ l. c.loop-lock.yielded ++ l) (sym c.in-Some.ensures.steps.0) ∙ so_far.all;
       length_is = ap length c.put.ensures.2 ∙ length-set cells (lock_number o.0) _ ∙ so_far.length_is;
-      fresh = rw c.put.ensures.2 (fresh_more (g.K.LineWords.Fit 0 0) c.loop-lock.yielded o rest cells (rw all c.requires.distinct)
+      fresh = rw c.put.ensures.2 (fresh_more (g.K.LockQueueWords.Coupling 0 0) c.loop-lock.yielded o rest cells (rw all c.requires.distinct)
           (all_mid (λ entry. lock_number entry.0 < length cells) c.loop-lock.yielded o rest (rw all within)) c.put.ensures.0 c.put.ensures.1 so_far.fresh);
     }

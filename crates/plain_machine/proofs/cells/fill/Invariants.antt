@@ -8,5 +8,5 @@ invariant-loop-lock g l = record {
   ends : (goal.iterator-loop-lock g).is_finite l.lock-iterator;
   all : l.yielded ++ l.lock-iterator.rest.items ≡ l.initial.lock-iterator.rest.items;
   length_is : length l.cells.items ≡ length l.initial.cells.items;
-  fresh : AreFresh (g.K.LineWords.Fit 0 0) l.yielded l.cells.items;
+  fresh : AreFresh (g.K.LockQueueWords.Coupling 0 0) l.yielded l.cells.items;
 }

@@ -10,12 +10,12 @@ loop-cpu-preserved g c =
     let homes = c.args.homes.now in
     let block = Queue c.in_ok-queue.queue c.of.result in
     let pushed : c.push.new.self.items ≡ locks.items ++ (Pending (record { 0 = c.loop-cpu.cpu }), block) ∷ [] = rw c.unwrap.ensures at c.push.ensures.items in
-    let told = ap (λ v. v.items) c.of.ensures ∙ c.kept_homes-kept.ensures in
+    let abstract_answer = ap (λ v. v.items) c.of.ensures ∙ c.kept_homes-kept.ensures in
     let empty = c.in_ok-queue.ensures ∙ c.new.ensures in
     let count = c.loop-cpu.invariant.1 in
     let more = ap length pushed ∙ length_push locks.items (Pending (record { 0 = c.loop-cpu.cpu }), block) in (
       subst (AreEmptyQueues homes 0) (sym pushed)
-          (queues_more homes 0 c.loop-cpu.cpu locks.items block c.loop-cpu.invariant.0 (omega (arith, count, locks.ok.0)) (empty, told)),
+          (queues_more homes 0 c.loop-cpu.cpu locks.items block c.loop-cpu.invariant.0 (omega (arith, count, locks.ok.0)) (empty, abstract_answer)),
       omega (arith, count, more, locks.ok.0, c.push.new.self.ok.0),
       omega (arith, c.loop-cpu.invariant.2, c.push.ensures.capacity),
     )

@@ -3,7 +3,7 @@ use Rattle.{event_log.specs.declared.ids.LockId.LockId, table_machine.{specs.Rul
 use Rattle.table_machine.proofs.open.opened_table.Goals as goal
 
 pub new-requires : goal.new-requires
-new-requires g c = opening_inv g.K.TableWords.kind g.E.SplitEdit.rules c.args.cpus c.of.result.value.items g.met.K.TableWords.lawful c.as_slice.result.now
+new-requires g c = opening_inv g.K.TableWords.kind g.E.SplitEdit.protocol c.args.cpus c.of.result.value.items g.met.K.TableWords.lawful c.as_slice.result.now
     c.in_ok-words.field-0.homes.items c.requires.cpus (rw (c.as_slice.ensures.value, c.of.ensures) c.in_ok-words.ensures.words)
     (c.in_ok-words.ensures.homes ∙ ap (λ v. map (λ (o : LockId × _). fresh_home o.1) v.items) (sym c.of.ensures))
 

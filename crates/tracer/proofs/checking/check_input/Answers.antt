@@ -15,7 +15,7 @@ returns-then-ended-clause-verdict g c =
     (held c.fill.new.self) c.held-in-loop.result.now (held part) c.take_lines-taken.result c.loop.invariant read.read c.held-in-loop.ensures
     c.take_lines-taken.ensures.judged c.drop_front.ensures.held in
     judged_all (remaining c.args.input.now) (remaining c.fill.new.input) judge (held part) c.verdict.result judged (read.end (ap Ok c.if-ended.true))
-    (c.verdict.ensures ∙ ap (verdict_behind judge) c.held-then-ended.ensures) c.yes_is_right.ensures.sound
+    (c.verdict.ensures ∙ ap (verdict_behind judge) c.held-then-ended.ensures) c.check_is_sound.ensures.sound
 
 pub loop-preserved : goal.loop-preserved
 loop-preserved g c =

@@ -24,8 +24,8 @@ go-requires g c =
 went : (g : Over) (c : After-go g) → SteppedAt g.I.CallLayer c.args.m.now c.args.self.now c.go.new.m c.go.new.self
 went g c = let some = c.go.ensures.some in let few = c.go.ensures.few in one_step c.go.ensures.ran (omega (arith, some, few))
 
-pub returns-clause-fits : goal.returns-clause-fits
-returns-clause-fits g c = (went g (goal.at.returns-clause-fits g c).After-go).agrees.fits
+pub returns-clause-coupled : goal.returns-clause-coupled
+returns-clause-coupled g c = (went g (goal.at.returns-clause-coupled g c).After-go).agrees.coupled
 
 pub returns-clause-is : goal.returns-clause-is
 returns-clause-is g c = (went g (goal.at.returns-clause-is g c).After-go).agrees.is

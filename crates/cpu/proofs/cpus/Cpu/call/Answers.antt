@@ -30,15 +30,15 @@ note_poll-fresh-requires g c =
 
 -- what the run returned and recorded
 module _ (g : Over) (c : After-note_poll-fresh g) where
-  open g.I.CallLayer use {own}
+  open g.I.CallLayer use {local}
 
   guests_now : c.note_poll-fresh.new.self.items ≡ with_guest c.args.self.now.guests.items c.args.thread.0
-      (λ x. polled x ((call_state_of (own c.poll_on-run.new.self).call_states c.args.thread).effect)
-      (answer_in (own c.poll_on-run.new.self).call_states c.args.thread c.poll_on-run.result.reply))
+      (λ x. polled x ((call_state_of (local c.poll_on-run.new.self).call_states c.args.thread).effect)
+      (answer_in (local c.poll_on-run.new.self).call_states c.args.thread c.poll_on-run.result.reply))
   guests_now = grind arith
 
   fresh_now : (if c.note_poll-fresh.result then c.effect_here-effect.result.now else None)
-      ≡ fresh_at (guest_at c.args.self.now.guests.items c.args.thread.0) ((call_state_of (own c.poll_on-run.new.self).call_states c.args.thread).effect)
+      ≡ fresh_at (guest_at c.args.self.now.guests.items c.args.thread.0) ((call_state_of (local c.poll_on-run.new.self).call_states c.args.thread).effect)
   fresh_now = (rw c.call_of-call.follows.holds-at-none at c.note_poll-fresh.ensures.fresh)
       ∙ ap (λ (f : Option Effect). fresh_at (guest_at c.args.self.now.guests.items c.args.thread.0) f) c.effect_here-effect.ensures
 

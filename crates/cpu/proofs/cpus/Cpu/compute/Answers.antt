@@ -16,18 +16,19 @@ returns g c =
     record {
       live = goes.live;
       agrees = record {
-        fits = goes.agrees.fits;
+        coupled = goes.agrees.coupled;
         number = goes.agrees.number;
-        is = subst (λ (l : List (Option Guest)). IsCpu (homes_in (I.opening m)) (length (caps_in (I.opening m))) (I.seen m) (threads_in (I.own p.part))
-            (I.own p.part).call_states (I.under_way p.part) p.number l p.trace.items p.limit (vec_capacity p.trace)) (sym c.note_compute.ensures)
+        is = subst (λ (l : List (Option Guest)). IsCpu (homes_in (I.opening m)) (length (caps_in (I.opening m))) (I.history m) (threads_in (I.local p.part))
+            (I.local p.part).call_states (I.under_way p.part) p.number l p.trace.items p.limit (vec_capacity p.trace)) (sym c.note_compute.ensures)
             (noted_compute (valid_cpu cpu.is) c.args.thread c.requires.chosen);
         table = λ step.
-            subst (λ (l : List (Option Guest)). IsTabled (homes_in (I.opening m)) (caps_in (I.opening m)) p.number (I.own p.part) (I.under_way p.part) l
+            subst (λ (l : List (Option Guest)). IsTabled (homes_in (I.opening m)) (caps_in (I.opening m)) p.number (I.local p.part) (I.under_way p.part) l
             (I.opening m)) (sym c.note_compute.ensures) (compute_tabled (tabled_cpu cpu step) c.args.thread c.requires.chosen);
       };
       leaves = left_alone I m p _ goes.agrees.number refl refl refl programs (guest_computes c.args.thread c.note_compute.ensures refl);
       steps = λ step.
-          subst (λ (l : List (Option Guest)). WentByTable (λ d. I.ActsFor m d) (homes_in (I.opening m)) (caps_in (I.opening m)) p.number p.limit (I.own p.part)
-          (I.own p.part) p.guests.items l p.trace.items p.trace.items (I.acts m) (I.acts m) Stepped) (sym c.note_compute.ensures)
+          subst (λ (l : List (Option Guest)). WentByTable (λ d. I.ActsFor m d) (homes_in (I.opening m)) (caps_in (I.opening m)) p.number p.limit
+          (I.local p.part)
+          (I.local p.part) p.guests.items l p.trace.items p.trace.items (I.acts m) (I.acts m) Stepped) (sym c.note_compute.ensures)
           (λ setup of. compute_steps (tabled_cpu cpu step) c.args.thread c.requires.chosen _ _ (outset cpu step) goes.live setup of);
     }

@@ -29,7 +29,7 @@ looks-requires g c =
     let few = c.loop-taken.invariant.few in
     let wide = c.requires.goes.room in
     let left = runs_room (ran_polling g (goal.at.looks-requires g c).After-pass) in
-    record { fits = c.pass.ensures.agrees.fits; some = grind (arith, few, c.if-taken-most.false); room = omega (arith, wide, left) }
+    record { coupled = c.pass.ensures.agrees.coupled; some = grind (arith, few, c.if-taken-most.false); room = omega (arith, wide, left) }
 
 -- and the polls of a lock after it
 ran_looking : (g : Over) (c : After-looks g)
@@ -52,7 +52,7 @@ loop-taken-preserved g c =
     record {
       few = (c.looks.ensures.goes_on c.if-looks.false).0;
       live = rw (same.0, same.1) (c.if-not-goes_on_draining.ensures.live refl);
-      chosen = ap (λ (own : Buffering). chosen (threads_in own) c.pass.new.self.guests.items) same.0
+      chosen = ap (λ (local : Buffering). chosen (threads_in local) c.pass.new.self.guests.items) same.0
           ∙ c.if-not-goes_on_draining.ensures.chosen refl;
       ran = ran_looking g (goal.at.loop-taken-preserved g c).After-looks;
     }

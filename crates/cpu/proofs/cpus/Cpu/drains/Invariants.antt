@@ -8,7 +8,7 @@ abbrev pub invariant-loop-taken : goal.invariant-loop-taken
 invariant-loop-taken g l = record {
   few : l.taken < l.most;
   live : stops_at g.I.CallLayer l.self ≡ None;
-  chosen : chosen (threads_in (g.I.CallLayer.own l.self.part)) l.self.guests.items ≡ Passes Drain;
+  chosen : chosen (threads_in (g.I.CallLayer.local l.self.part)) l.self.guests.items ≡ Passes Drain;
   ran : RunsAt g.I.CallLayer l.initial.m l.initial.self l.taken l.m l.self;
 }
 

@@ -28,7 +28,7 @@ note_pass-requires g c = λ t runs.
 
 -- what the poll leaves of the CPU over the tower, with these guests
 abbrev tabled : (g : Over) (c : After-pass-done g) (step : g.I.CallLayer.IsStepwise) (guests : List (Option Guest))
-    → guests ≡ passed_if (threads_in (g.I.CallLayer.own c.args.self.now.part)).current c.args.self.now.guests.items c.args.pass c.pass-done.result
+    → guests ≡ passed_if (threads_in (g.I.CallLayer.local c.args.self.now.part)).current c.args.self.now.guests.items c.args.pass c.pass-done.result
     → TabledPass (λ d. g.I.CallLayer.ActsFor c.args.m.now d)
     (tabled_cpu (cpu g (goal.at.pass-done-requires-clause-may g c.before).Start) step) c.args.pass (g.I.CallLayer.acts c.args.m.now)
 tabled g c step guests is =
@@ -39,15 +39,15 @@ tabled g c step guests is =
     let n = c.pass-done.new.m in
     let told = c.pass-done.ensures.passed in
     record {
-      own = I.own q;
+      local = I.local q;
       under_way = I.under_way q;
       guests = guests;
       new = I.acts n;
       result = c.pass-done.result;
       queue = pending_by (told.others ++ I.moves m) (I.cpu_of c.args.self.now.part);
-      known = hand_preserved (homes_in (I.opening m)) (homes_in (I.opening n)) (I.cpu_of q) (I.moves n) (threads_in (I.own q))
+      known = hand_preserved (homes_in (I.opening m)) (homes_in (I.opening n)) (I.cpu_of q) (I.moves n) (threads_in (I.local q))
           (ap homes_in c.pass-done.ensures.framed.stays.opening)
-          (law.stands q n c.pass-done.ensures.framed.fits) (law.moves_legal n (I.cpu_of q) (law.own_cpu q n c.pass-done.ensures.framed.fits));
+          (law.stands q n c.pass-done.ensures.framed.coupled) (law.moves_legal n (I.cpu_of q) (law.own_cpu q n c.pass-done.ensures.framed.coupled));
       follows = rw c.requires.goes.agrees.number at (c.pass-done.ensures.follows step);
       threads_are = grind (arith, told.after);
       under_way_is = c.pass-done.ensures.under_way;
@@ -71,19 +71,19 @@ returns-then-is_some g c =
     record {
       live = goes.live;
       agrees = record {
-        fits = e.framed.fits;
+        coupled = e.framed.coupled;
         number = e.framed.cpu ∙ number;
         is = rw (e.framed.stays.opening, e.call_states)
-            (noted_done (valid_cpu cpu.is) c.args.pass (pending_by (told.others ++ I.moves m) (I.cpu_of p.part)) (I.seen c.pass-done.new.m)
-            (threads_in (I.own c.pass-done.new.self)) (I.under_way c.pass-done.new.self) c.note_pass.new.self.items (runs_home cpu) c.requires.chosen
-            (others_same (λ d. I.ActsFor m d) p.number (I.seen m) (I.seen c.pass-done.new.m) e.seen (acts_for cpu)) (rw some at told.after)
+            (noted_done (valid_cpu cpu.is) c.args.pass (pending_by (told.others ++ I.moves m) (I.cpu_of p.part)) (I.history c.pass-done.new.m)
+            (threads_in (I.local c.pass-done.new.self)) (I.under_way c.pass-done.new.self) c.note_pass.new.self.items (runs_home cpu) c.requires.chosen
+            (others_same (λ d. I.ActsFor m d) p.number (I.history m) (I.history c.pass-done.new.m) e.history (acts_for cpu)) (rw some at told.after)
             (e.under_way ∙ (grind (arith, some)))
             (c.note_pass.ensures ∙ ap (λ (o : Option Tid). passed_by o p.guests.items c.args.pass) c.current-runs.ensures));
         table = λ step. rw e.framed.stays.opening
             (pass_tabled (tabled_cpu cpu step) c.args.pass c.requires.chosen _ _ (tabled g at step c.note_pass.new.self.items (grind arith)));
       };
       leaves = left_framed I m c.pass-done.new.m p _ number refl refl e.framed (ap programs_of c.note_pass.ensures ∙ (grind (arith, programs_with)))
-          (passed_so c.current-runs.result _ _ c.args.pass c.note_pass.ensures) (others_grow _ _ _ _ e.seen)
+          (passed_so c.current-runs.result _ _ c.args.pass c.note_pass.ensures) (others_grow _ _ _ _ e.history)
           (rw (← number) (passed_grows _ _ _ _ _ _ _ _ _ e.passed)) (λ step. rw (← number) (follows_grow _ _ _ _ _ _ _ _ (e.follows step)));
       steps = λ step setup of. pass_steps (tabled_cpu cpu step) c.args.pass c.requires.chosen _ _
           (tabled g at step c.note_pass.new.self.items (grind arith)) setup of (outset cpu step) goes.live;
@@ -104,17 +104,17 @@ returns-else-is_some g c =
     record {
       live = goes.live;
       agrees = record {
-        fits = e.framed.fits;
+        coupled = e.framed.coupled;
         number = e.framed.cpu ∙ number;
         is = rw (e.framed.stays.opening, e.call_states)
-            (noted_wait (valid_cpu cpu.is) c.args.pass (I.seen c.pass-done.new.m) (threads_in (I.own c.pass-done.new.self))
+            (noted_wait (valid_cpu cpu.is) c.args.pass (I.history c.pass-done.new.m) (threads_in (I.local c.pass-done.new.self))
             (I.under_way c.pass-done.new.self) c.requires.chosen
-            (others_same (λ d. I.ActsFor m d) p.number (I.seen m) (I.seen c.pass-done.new.m) e.seen (acts_for cpu)) (rw none at e.passed.after)
+            (others_same (λ d. I.ActsFor m d) p.number (I.history m) (I.history c.pass-done.new.m) e.history (acts_for cpu)) (rw none at e.passed.after)
             (e.under_way ∙ (grind (arith, none))));
         table = λ step. rw e.framed.stays.opening
             (pass_tabled (tabled_cpu cpu step) c.args.pass c.requires.chosen _ _ (tabled g at step p.guests.items (grind arith)));
       };
-      leaves = left_framed I m c.pass-done.new.m p _ number refl refl e.framed refl (guests_rest refl refl) (others_grow _ _ _ _ e.seen)
+      leaves = left_framed I m c.pass-done.new.m p _ number refl refl e.framed refl (guests_rest refl refl) (others_grow _ _ _ _ e.history)
           (rw (← number) (passed_grows _ _ _ _ _ _ _ _ _ e.passed)) (λ step. rw (← number) (follows_grow _ _ _ _ _ _ _ _ (e.follows step)));
       steps = λ step setup of. pass_steps (tabled_cpu cpu step) c.args.pass c.requires.chosen _ _
           (tabled g at step p.guests.items (grind arith)) setup of (outset cpu step) goes.live;

@@ -12,7 +12,7 @@ looks-requires g c =
     let so = c.loop-most.invariant in
     let wide = c.requires.room in
     let left = runs_room so.ran in
-    record { fits = (runs_agree c.requires.agrees so.ran).fits; some = so.few; room = omega (arith, wide, left) }
+    record { coupled = (runs_agree c.requires.agrees so.ran).coupled; some = so.few; room = omega (arith, wide, left) }
 
 -- the steps with the polls of a lock after them, after which the CPU is not halted
 ran_looking : (g : Over) (c : After-looks g)

@@ -10,7 +10,7 @@ returns-then-look g c =
     let cpu = layered laws c.args.m.now p c.requires.agrees in
     let looked = look_steps laws c.args.m.now p cpu c.look.new.m (record p { part = c.look.new.self }) c.if-look.ensures refl refl refl refl (omega arith) in
     record {
-      fits = looked.agrees.fits;
+      coupled = looked.agrees.coupled;
       is = looked.agrees.is;
       leaves = looked.leaves;
       answer = ap step_answer (sym looked.live);

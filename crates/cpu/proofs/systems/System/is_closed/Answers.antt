@@ -21,7 +21,7 @@ returns-in-Some-closed_in_hands g c =
     rw (← c.self.view_is) (told_here g.I.CallLayer c.self.inside.machine c.self.inside.cpus.items is.each is.holders told c.deref-at-items.result.now
     c.loop-at.at-index c.deref-at-items.ensures.value c.at-item.result c.in-Some-closed_in_hands.closed c.loop-at-test.true
     c.at-item.is (sym c.closed_in_hands.ensures ∙ c.in-Some-closed_in_hands.is)
-    ∙ sym (listed_there (is_closed (g.I.CallLayer.seen c.self.inside.machine)) (length (caps_in (g.I.CallLayer.opening c.self.inside.machine)))
+    ∙ sym (listed_there (is_closed (g.I.CallLayer.history c.self.inside.machine)) (length (caps_in (g.I.CallLayer.opening c.self.inside.machine)))
     c.args.buffer.0 false (rw (← c.self.view_is) at c.requires)))
 
 pub loop-at-preserved : goal.loop-at-preserved

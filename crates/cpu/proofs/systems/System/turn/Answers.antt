@@ -1,6 +1,6 @@
 use Rattle.std.proofs.Common.{rules, ◌≡◌, ℕ, ◌+◌, ◌≤◌, List, replicate, take, Option, Some, None, is_some, ap, sym, ◌∙◌, subst, arith}
 use Rattle.std.{proofs.lemmas.Option.slice_get_within, specs.Prelude.{slice_get, slice_index_or}}
-use Rattle.{event_log.specs.declared.ids.CpuId.CpuId, layer_traits.specs.declared.steps.Reason.Reason, cpu.specs.{Claims.CpuShown, CpuSteps.AgreesAt}}
+use Rattle.{event_log.specs.declared.ids.CpuId.CpuId, layer_traits.specs.declared.steps.Reason.Reason, cpu.specs.{Claims.CpuView, CpuSteps.AgreesAt}}
 use Rattle.cpu.{specs.Systems.{own_reason_in, reason_of, reason_or}, proofs.CpuSteps.CpuRuns.{runs_agree, runs_room}}
 use Rattle.cpu.proofs.{StepTable.Schedules.{Leads, leads_resting, turn_begun}, ListFacts.ListReads.{read_at, shows_at}, WholeSystems.Moments.MachineLaws}
 use Rattle.cpu.proofs.OverLayer.{RunsOverLayer.{WentSo, spun_so, went_so}, SystemOverLayer.shown_by}
@@ -18,15 +18,16 @@ at g c = grind (arith, read_at)
 agrees : (g : Over) (c : After-index_mut-at g) → AgreesAt g.I.CallLayer c.self.inside.machine c.index_mut-at.result.now
 agrees g c =
     let is = (c.self.invariant.each c.from.result c.index_mut-at.result.now (at g c)).holds in
-    record { fits = is.0; number = is.1; is = is.2; table = is.3 }
+    record { coupled = is.0; number = is.1; is = is.2; table = is.3 }
 
 -- no step is taken
-rests : (g : Over) (c : Then-is_some g) → Leads g.I.CallLayer.IsStepwise c.args.self.now (take (c.steps_behind-own.result + 1) c.args.steps.now) c.args.self.now
+rests : (g : Over) (c : Then-is_some g)
+    → Leads g.I.CallLayer.IsStepwise c.args.self.now (take (c.steps_behind-local.result + 1) c.args.steps.now) c.args.self.now
 rests g c =
     let some = sym (ap (λ (r : Option Reason). is_some r) c.reason.ensures.is) ∙ sym c.if-is_some.ensures in
     subst (λ (l : List CpuId). Leads g.I.CallLayer.IsStepwise c.args.self.now l c.args.self.now)
-    (turn_begun c.args.steps.now (record { 0 = 0 }) c.steps_behind-own.result (c.steps_behind-own.result + 1) c.requires.some c.steps_behind-own.ensures
-    (omega arith)) (leads_resting g.I.CallLayer.IsStepwise (first c.args.steps.now) c.args.self.now (c.steps_behind-own.result + 1)
+    (turn_begun c.args.steps.now (record { 0 = 0 }) c.steps_behind-local.result (c.steps_behind-local.result + 1) c.requires.some c.steps_behind-local.ensures
+    (omega arith)) (leads_resting g.I.CallLayer.IsStepwise (first c.args.steps.now) c.args.self.now (c.steps_behind-local.result + 1)
     (c.requires.known 0 (record { 0 = 0 }) c.requires.some) some c.reason.ensures.table)
 
 pub returns-then-is_some-clause-ran : goal.returns-then-is_some-clause-ran
@@ -48,11 +49,12 @@ run-taken-requires g c =
       agrees = agrees g found;
       some = grind (arith, left, live);
       room = grind (arith, enough);
-      live = grind (arith, sym (ap (λ (o : Option CpuShown). reason_or (own_reason_in o) c.args.self.now) shown) ∙ live);
+      live = grind (arith, sym (ap (λ (o : Option CpuView). reason_or (own_reason_in o) c.args.self.now) shown) ∙ live);
     }
 
-pub spin-looks-requires-clause-fits : goal.spin-looks-requires-clause-fits
-spin-looks-requires-clause-fits g c = (runs_agree (agrees g (goal.at.spin-looks-requires-clause-fits g c).After-index_mut-at) c.run-taken.ensures.ran).fits
+pub spin-looks-requires-clause-coupled : goal.spin-looks-requires-clause-coupled
+spin-looks-requires-clause-coupled g c =
+    (runs_agree (agrees g (goal.at.spin-looks-requires-clause-coupled g c).After-index_mut-at) c.run-taken.ensures.ran).coupled
 
 pub spin-looks-requires-clause-room : goal.spin-looks-requires-clause-room
 spin-looks-requires-clause-room g c =

@@ -2,7 +2,7 @@ use Rattle.std.proofs.{Common.{◌≡◌, ◌<◌, ℕ, [], List, Option, length
 use Rattle.std.{proofs.lemmas.Option.slice_get_within, specs.Prelude.slice_index_or}
 use Rattle.layer_traits.specs.{Blocks.{Capacities.caps_in, QueueBlocks.homes_in}, Views.OwnParts.threads_in, Threads.OnePlace.cpu_at}
 use Rattle.cpu.specs.{declared.{cpus.Cpu.Cpu, guests.Guest.Guest}, Boots.AreGuests, Claims.{cpu_shown, shown_of}, Sound.BootsByTable, Tables.IsTabled}
-use Rattle.cpu.{specs.{Tables.private, Tower.Composed.named}, proofs.{ListFacts.ListReads.shown_at, WholeSystems.SystemsAtBoot.{IsNew, starts_by_table}}}
+use Rattle.cpu.{specs.{Tables.cpu_local, Tower.Composed.named}, proofs.{ListFacts.ListReads.shown_at, WholeSystems.SystemsAtBoot.{IsNew, starts_by_table}}}
 use Rattle.cpu.proofs.{WholeSystems.InvariantAtBoot.{all_one, boots_as, opens, shows_all}, StepTable.TableCalls.boots_tabled}
 use Rattle.event_log.specs.{declared.ids.CpuId.CpuId, Actions.Action}
 use Rattle.cpu.proofs.systems.System.with_tables.Goals as goal
@@ -17,11 +17,12 @@ assembled-requires g c =
     let openable = c.requires.openable in
     let tables : List (List (Option Guest)) = map (λ t. t.items) c.args.tables.items in
     let so_many : length tables ≡ length c.args.tables.items = length-map c.args.tables.items (λ t. t.items) in
-    let shown = λ (x : Cpu g.row.I.Denot g.row.I-Machine.Denot). cpu_shown (threads_in (I.own x.part)) x.guests.items x.trace.items x.limit (I.is_inside x.part)
-    (I.own x.part) in
+    let shown =
+    λ (x : Cpu g.row.I.Denot g.row.I-Machine.Denot). cpu_shown (threads_in (I.local x.part)) x.guests.items x.trace.items x.limit (I.is_inside x.part)
+    (I.local x.part) in
     let threads = ap (λ (l : List CpuId). length l) (sym c.in_ok-machine.ensures.opened.homes_are) in
     let below : (k : ℕ) → k < length cpus → k < length tables = grind arith in
-    let start = shown_of (caps_in (I.opening m)) (homes_in (I.opening m)) (I.seen m) (I.wait_lists m) (g.I.Owned.owner m) (I.moves m) (I.acts m)
+    let start = shown_of (caps_in (I.opening m)) (homes_in (I.opening m)) (I.history m) (I.wait_lists m) (g.I.Owned.owner m) (I.moves m) (I.acts m)
     (map shown cpus) c.args.room 0 in
     let boots : I.IsStepwise → BootsByTable start = λ step. starts_by_table start (ap (λ (l : List (Action _)). named l) e.none) refl
     (shown_at shown (λ k p. IsNew (homes_in (I.opening m)) k p) cpus (λ k x at.
@@ -30,9 +31,9 @@ assembled-requires g c =
     subst (λ (h : List CpuId). IsNew h k (shown x)) (sym e.opened.homes_are) (record {
       buffers = length c.args.caps.now;
       guests = subst (λ (l : List (Option Guest)). AreGuests homes (length c.args.caps.now) (cpu_at k) l) (sym b.booted.guests_are) are;
-      private_is = (λ i. private (b.own_is i) x.guests.items (b.booted.nothing i));
+      cpu_local_is = (λ i. cpu_local (b.own_is i) x.guests.items (b.booted.nothing i));
     }))) in
-    opens _ (λ x. x.number) (λ d. I.ActsFor m d) (λ d. I.MayHold m d) I.IsStepwise (I.acts m) cpus homes (homes_in (I.opening m)) (I.seen m) c.args.caps.now
+    opens _ (λ x. x.number) (λ d. I.ActsFor m d) (λ d. I.MayHold m d) I.IsStepwise (I.acts m) cpus homes (homes_in (I.opening m)) (I.history m) c.args.caps.now
     c.args.room (I.room m) (length c.args.tables.items) _ (threads, boots) openable c.in_ok-cpus.ensures.count (λ k x at.
     let b = c.in_ok-cpus.ensures.booted k x at in
     let within : k < length c.args.tables.items =
@@ -58,7 +59,7 @@ assembled-requires g c =
                 (slice_index_or tables k []) (length c.args.caps.now) (I.opening m) are opened),
           );
     })
-    e.acts e.holders e.none e.opened.homes_are e.opened.none_seen c.ranges.room.fits e.opened.room_is
+    e.acts e.holders e.none e.opened.homes_are e.opened.none_seen c.ranges.room.coupled e.opened.room_is
 
 pub returns-clause-guests : goal.returns-clause-guests
 returns-clause-guests g c =

@@ -20,16 +20,17 @@ loop-number-preserved g c =
       tables_left = c.remove-guests.ensures.items ∙ ap (λ l. drop 1 l) inv.tables_left ∙ drop_more tables n within;
       so_many = omega (arith, ap (λ l. length l) grown ∙ length-append c.loop-number.cpus.items (x ∷ []), inv.so_many);
       has_room = let room = inv.has_room in let more = c.put_cpu.ensures.capacity in omega (arith, room, more);
-      booted = λ k z at. at_end (λ j (y : Cpu g.row.I.Denot g.row.I-Machine.Denot). IsBootedAs (λ p m. I.Fits p m) (λ m d. I.IsFresh m c.args.homes.now d)
+      booted = λ k z at. at_end (λ j (y : Cpu g.row.I.Denot g.row.I-Machine.Denot). IsBootedAs (λ p m. I.Coupled p m) (λ m d. I.IsFresh m c.args.homes.now d)
           (λ m. length (caps_in (I.opening m))) c.args.buffers c.args.homes.now j (slice_index_or (map (λ t. t.items) tables) j []) c.args.limit y.part
-          (I.cpu_of y.part) (I.own y.part) (I.under_way y.part) y.number y.guests.items y.trace.items y.limit (vec_capacity y.trace)) c.loop-number.cpus.items x
+          (I.cpu_of y.part) (I.local y.part) (I.under_way y.part) y.number y.guests.items y.trace.items y.limit (vec_capacity y.trace)) c.loop-number.cpus.items
+          x
           inv.booted
           (rw inv.so_many (record {
             booted = grind (arith, n, x, e);
             cpu_is = e.cpu;
             nothing_done = e.under_way;
-            own_is = e.own;
-            fits = e.fits;
+            own_is = e.local;
+            coupled = e.coupled;
           }))
           k z (subst (λ l. slice_get l k ≡ Some z) grown at);
     }

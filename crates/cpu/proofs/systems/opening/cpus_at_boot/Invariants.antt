@@ -8,7 +8,7 @@ invariant-loop-number g l = record {
   so_many : length l.cpus.items ≡ l.number;
   has_room : length l.fn.tables.items ≤ vec_capacity l.cpus;
   booted : (k : ℕ) (x : Cpu g.row.I.Denot g.row.I-Machine.Denot) → slice_get l.cpus.items k ≡ Some x
-      → IsBootedAs (λ p m. g.I.CallLayer.Fits p m) (λ m d. g.I.CallLayer.IsFresh m l.homes d) (λ m. length (caps_in (g.I.CallLayer.opening m))) l.buffers
-      l.homes k (slice_index_or (map (λ table. table.items) l.fn.tables.items) k []) l.limit x.part (g.I.CallLayer.cpu_of x.part) (g.I.CallLayer.own x.part)
+      → IsBootedAs (λ p m. g.I.CallLayer.Coupled p m) (λ m d. g.I.CallLayer.IsFresh m l.homes d) (λ m. length (caps_in (g.I.CallLayer.opening m))) l.buffers
+      l.homes k (slice_index_or (map (λ table. table.items) l.fn.tables.items) k []) l.limit x.part (g.I.CallLayer.cpu_of x.part) (g.I.CallLayer.local x.part)
       (g.I.CallLayer.under_way x.part) x.number x.guests.items x.trace.items x.limit (vec_capacity x.trace);
 }

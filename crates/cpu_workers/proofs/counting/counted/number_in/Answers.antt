@@ -13,5 +13,5 @@ pub returns-clause-number : goal.returns-clause-number
 returns-clause-number g c =
     let m = c.args.machine.now in
     let shown = g.met.L.OwnedLocks.shown m c.requires.owned.0 NUMBER c.requires.owned.1 (ap is_some c.requires.opening) in
-    block_counts (g.L.Layer.opening m) NUMBER (g.L.Layer.acts m) (g.L.Layer.seen m) _ c.requires.opening (g.met.L.Layer.seen_is c.requires.stepwise m)
+    block_counts (g.L.Layer.opening m) NUMBER (g.L.Layer.acts m) (g.L.Layer.history m) _ c.requires.opening (g.met.L.Layer.seen_is c.requires.stepwise m)
     (shown.by_machine _ (sym c.block_in.ensures ∙ ap (option_map (λ (b : Bor _). b.now)) c.unwrap.ensures))

@@ -4,12 +4,12 @@ use Rattle.cpu_workers.proofs.counting.sections.add_one.Given as goal
 
 abbrev pub invariant-loop : goal.invariant-loop
 invariant-loop g l = record {
-  fits : g.L.Layer.Fits l.part l.machine;
+  coupled : g.L.Layer.Coupled l.part l.machine;
   cpu : g.L.Layer.cpu_of l.part ≡ g.L.Layer.cpu_of l.initial.part;
   opening : g.L.Layer.opening l.machine ≡ g.L.Layer.opening l.initial.machine;
-  site : g.L.Layer.site l.machine ≡ g.L.Layer.site l.initial.machine;
+  machine_id : g.L.Layer.machine_id l.machine ≡ g.L.Layer.machine_id l.initial.machine;
   acts : (c : CpuId) → g.L.Layer.ActsFor l.initial.machine c → g.L.Layer.ActsFor l.machine c;
   call : MayGoOn (g.L.Layer.under_way l.part) (section (g.L.Layer.cpu_of l.initial.part) l.lock (record {}));
-  made : made (g.L.Layer.cpu_of l.initial.part) l.lock (g.L.Layer.seen l.machine)
-      ≡ made (g.L.Layer.cpu_of l.initial.part) l.lock (g.L.Layer.seen l.initial.machine);
+  made : made (g.L.Layer.cpu_of l.initial.part) l.lock (g.L.Layer.history l.machine)
+      ≡ made (g.L.Layer.cpu_of l.initial.part) l.lock (g.L.Layer.history l.initial.machine);
 }

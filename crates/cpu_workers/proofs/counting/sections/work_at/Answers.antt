@@ -10,13 +10,13 @@ loop-preserved g c =
     let L = g.L.Layer in
     let known = c.loop.invariant in
     record {
-      fits = c.add_one.ensures.fits;
+      coupled = c.add_one.ensures.coupled;
       cpu = c.add_one.ensures.cpu ∙ known.cpu;
       rests = c.add_one.ensures.rests;
       acts = c.add_one.ensures.acts c.args.cpu known.acts;
       outside = subst (λ cpu. L.IsOutside c.add_one.new.machine cpu) known.cpu c.add_one.ensures.outside;
       opening = c.add_one.ensures.opening ∙ known.opening;
-      site = c.add_one.ensures.site ∙ known.site;
-      made = subst (λ cpu. made cpu NUMBER (L.seen c.add_one.new.machine) ≡ made cpu NUMBER (L.seen c.loop.seat) + 1) known.cpu c.add_one.ensures.made
-          ∙ (ap (λ n. n + 1) known.made ∙ add_assoc (made c.args.cpu NUMBER (L.seen c.args.seat.now)) c.loop.counter 1);
+      machine_id = c.add_one.ensures.machine_id ∙ known.machine_id;
+      made = subst (λ cpu. made cpu NUMBER (L.history c.add_one.new.machine) ≡ made cpu NUMBER (L.history c.loop.seat) + 1) known.cpu c.add_one.ensures.made
+          ∙ (ap (λ n. n + 1) known.made ∙ add_assoc (made c.args.cpu NUMBER (L.history c.args.seat.now)) c.loop.counter 1);
     }

@@ -20,16 +20,16 @@ pub call_over-requires-clause-ready : goal.call_over-requires-clause-ready
 call_over-requires-clause-ready g c = λ κs within k m at.
     let n = length c.args.natives.items in
     ready_at (λ opening. OpensWith (length c.in_ok-seats.seats.items) c.args.caps.now c.args.homes.now opening) c.args.shared.now n
-    (λ x. lock_phase (cpu_at k) x.seen ≡ Idle) (λ x. acts_of edit_of x.seen) (c.in_ok-seats.ensures ∙ c.requires.keys) k m at refl refl
+    (λ x. lock_phase (cpu_at k) x.history ≡ Idle) (λ x. acts_of edit_of x.history) (c.in_ok-seats.ensures ∙ c.requires.keys) k m at refl refl
     (subst (λ j. OpensWith j c.args.caps.now c.args.homes.now (opened c.args.shared.now.start))
     (sym (as_many c.args.shared.now n (c.in_ok-seats.ensures ∙ c.requires.keys))) c.requires.opens)
 
 pub parted-requires : goal.parted-requires
 parted-requires g c =
     let e = c.in_ok-back.ensures in
-    let fits = left_fit c.args.shared.now (length c.args.natives.items) (c.in_ok-seats.ensures ∙ c.requires.keys) c.in_ok-left.ensures.count
+    let coupled = left_fit c.args.shared.now (length c.args.natives.items) (c.in_ok-seats.ensures ∙ c.requires.keys) c.in_ok-left.ensures.count
     (c.len.ensures ∙ c.args.natives.ok.0) in
-    record { keys = (e.keys.0, fits _ e.keys.1); natives = (e.natives.0, fits _ e.natives.1) }
+    record { keys = (e.keys.0, coupled _ e.keys.1); natives = (e.natives.0, coupled _ e.natives.1) }
 
 pub returns : goal.returns
 returns g c =
@@ -38,8 +38,8 @@ returns g c =
     let caps = c.args.caps.now in
     let natives = c.args.natives.items in
     subst (λ x. x) (λ i. HaveLeftKeys g.N.Native.Kept caps c.args.shared.now natives (sym e.natives i) (sym e.keys i))
-    (have_left g.N.Native.Kept caps c.args.shared.now natives c.in_ok-left.left.items (λ x. x.machine) (λ x. x.native) (λ x. acts_of edit_of x.seen)
-    (λ x lawful. refl) c.in_ok-seats.seats.items (c.in_ok-seats.ensures ∙ c.requires.keys) its.count its.site its.owns its.left)
+    (have_left g.N.Native.Kept caps c.args.shared.now natives c.in_ok-left.left.items (λ x. x.machine) (λ x. x.native) (λ x. acts_of edit_of x.history)
+    (λ x lawful. refl) c.in_ok-seats.seats.items (c.in_ok-seats.ensures ∙ c.requires.keys) its.count its.machine_id its.owns its.left)
 
 pub call_over-requires-send-L : goal.call_over-requires-send-L
 call_over-requires-send-L g c = λ κs within.

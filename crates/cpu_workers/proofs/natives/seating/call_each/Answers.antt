@@ -22,13 +22,13 @@ returns-clause-count g c =
     both_length _ c.into_done.result.items c.all_left.result.items c.all_left.ensures ∙ both_length _ c.in_ok-tasks.tasks.items c.into_done.result.items
     (both_kept _ c.in_ok-tasks.tasks.items (ap (λ v. v.items) c.into_done.ensures) c.in_ok-done.ensures.ran) ∙ c.in_ok-tasks.ensures.count
 
-pub returns-clause-site : goal.returns-clause-site
-returns-clause-site g c = λ k x m at there.
+pub returns-clause-machine_id : goal.returns-clause-machine_id
+returns-clause-machine_id g c = λ k x m at there.
     let d = both_back _ c.into_done.result.items c.all_left.result.items c.all_left.ensures k x at in
     let e = both_back _ c.in_ok-tasks.tasks.items c.into_done.result.items
     (both_kept _ c.in_ok-tasks.tasks.items (ap (λ v. v.items) c.into_done.ensures) c.in_ok-done.ensures.ran) k d.0 d.1 in
     let n = c.in_ok-tasks.ensures.each k e.0 e.1 in
-    d.2.0.site_is ∙ e.2.same.site ∙ n.2 m there
+    d.2.0.site_is ∙ e.2.same.machine_id ∙ n.2 m there
 
 pub returns-clause-owns : goal.returns-clause-owns
 returns-clause-owns g c = λ k x at.

@@ -20,7 +20,7 @@ new-caller-requires g c =
       threads = c.requires.threads;
       fresh = unused.fresh;
       buffers = ap (λ l. length l) unused.caps;
-      seen = unused.unseen;
+      history = unused.unseen;
       room = c.requires.room;
       opens = unused.opens;
     }
@@ -42,12 +42,12 @@ loop-number-preserved g c =
     let there = taken_at natives n inv.natives_left below_too c.remove-native.result c.remove-native.ensures.value in
     let caps = (c.requires.unused n c.remove-machine.result here).caps in
     let fresh : IsNewCaller c.args.caps.now (cpu_at n) c.new-caller.result × ((m : g.row.I-Machine.Denot) → slice_get machines n ≡ Some m
-    → c.new-caller.result.site ≡ g.I.CallLayer.site m) = (
+    → c.new-caller.result.machine_id ≡ g.I.CallLayer.machine_id m) = (
       record { cpu_is = e.cpu; thread_is = ap (λ t. t.0) e.thread; caps_are = e.caps ∙ caps; fresh = e.calls },
-      λ m at. let same : c.remove-machine.result ≡ m = cc (here, at) in e.site ∙ ap (λ x. g.I.CallLayer.site x) same,
+      λ m at. let same : c.remove-machine.result ≡ m = cc (here, at) in e.machine_id ∙ ap (λ x. g.I.CallLayer.machine_id x) same,
     ) in
     let boxed = subst (λ (v : CallerView). IsNewCaller c.args.caps.now (cpu_at n) v × ((m : g.row.I-Machine.Denot) → slice_get machines n ≡ Some m
-    → v.site ≡ g.I.CallLayer.site m)) (sym c.in_ok-caller.ensures.ok) fresh in
+    → v.machine_id ≡ g.I.CallLayer.machine_id m)) (sym c.in_ok-caller.ensures.ok) fresh in
     record {
       machines_left = taken_one machines n inv.machines_left below c.remove-machine.ensures.items;
       natives_left = taken_one natives n inv.natives_left below_too c.remove-native.ensures.items;

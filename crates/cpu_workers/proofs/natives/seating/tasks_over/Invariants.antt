@@ -7,6 +7,7 @@ invariant-loop-number g l = record {
   machines_left : l.machines.items ≡ drop l.number l.fn.machines.items;
   natives_left : l.natives.items ≡ drop l.number l.fn.natives.items;
   tasks : Numbered (λ k t. IsNewCaller l.caps (cpu_at k) t.caller.value × (slice_get l.fn.natives.items k ≡ Some t.native)
-      × ((m : g.row.I-Machine.Denot) → slice_get l.fn.machines.items k ≡ Some m → t.caller.value.site ≡ g.I.CallLayer.site m)) l.tasks.items l.number
+      × ((m : g.row.I-Machine.Denot) → slice_get l.fn.machines.items k ≡ Some m → t.caller.value.machine_id ≡ g.I.CallLayer.machine_id m)) l.tasks.items
+      l.number
       (length l.fn.machines.items) (vec_capacity l.tasks);
 }

@@ -4,10 +4,10 @@ use Rattle.cpu_workers.proofs.workers.calling.call.Goals as goal
 
 pub loop-init : goal.loop-init
 loop-init g c = record {
-  fits = c.requires.fits;
+  coupled = c.requires.coupled;
   cpu = refl;
   opening = refl;
-  site = refl;
+  machine_id = refl;
   under_way = c.requires.under_way;
   may = tt;
   ended = refl;
@@ -21,15 +21,17 @@ loop-preserved g c =
     let e = c.poll_once.ensures in
     let goes = c.in-Err.ensures.goes in
     let t = c.args.t in
-    let first = I.seen c.args.m.now in record {
-      fits = e.fits;
+    let first = I.history c.args.m.now in record {
+      coupled = e.coupled;
       cpu = e.cpu ∙ known.cpu;
       opening = e.opening ∙ known.opening;
-      site = e.site ∙ known.site;
+      machine_id = e.machine_id ∙ known.machine_id;
       under_way = goes.0;
       may = goes.1;
       ended = e.ended ∙ known.ended;
-      on = subst (λ (d : CpuId). IsOn d t c.args.call.now (call_state_of (I.own c.poll_once.new.part).call_states t) first (I.seen c.poll_once.new.m)) known.cpu
-          (goes.2 first (subst (λ (d : CpuId). IsOn d t c.args.call.now (call_state_of (I.own c.loop.part).call_states t) first (I.seen c.loop.m))
+      on =
+          subst (λ (d : CpuId). IsOn d t c.args.call.now (call_state_of (I.local c.poll_once.new.part).call_states t) first (I.history c.poll_once.new.m))
+          known.cpu
+          (goes.2 first (subst (λ (d : CpuId). IsOn d t c.args.call.now (call_state_of (I.local c.loop.part).call_states t) first (I.history c.loop.m))
           (sym known.cpu) known.on));
     }

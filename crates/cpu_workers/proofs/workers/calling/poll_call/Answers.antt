@@ -5,7 +5,7 @@ use Rattle.cpu_workers.proofs.workers.calling.poll_call.Goals as goal
 
 pub returns-in-Some-clause-ends : goal.returns-in-Some-clause-ends
 returns-in-Some-clause-ends g c =
-    let acts = g.met.I.CallLayer.own_cpu _ _ c.requires.fits in
+    let acts = g.met.I.CallLayer.own_cpu _ _ c.requires.coupled in
     let e = c.poll.ensures in
     let some = c.in-Some.is in
     let called = e.called c.requires.buffer in
@@ -14,20 +14,20 @@ returns-in-Some-clause-ends g c =
 pub returns-in-None-clause-goes : goal.returns-in-None-clause-goes
 returns-in-None-clause-goes g c =
     let e = c.poll.ensures in
-    let some : is_some ((threads_in (g.I.CallLayer.own c.poll.new.self)).current) ≡ true = search rules in
+    let some : is_some ((threads_in (g.I.CallLayer.local c.poll.new.self)).current) ≡ true = search rules in
     let runs = runs_on c.args.t _ _ _ (e.runs c.requires.buffer) some in (
       e.under_way c.requires.buffer ∙ calls_on c.args.t _ _ c.in-None.is runs,
       runs,
-      called_on _ _ (g.met.I.CallLayer.own_cpu _ _ c.requires.fits) c.in-None.is (e.called c.requires.buffer),
+      called_on _ _ (g.met.I.CallLayer.own_cpu _ _ c.requires.coupled) c.in-None.is (e.called c.requires.buffer),
     )
 
 pub returns-in-None-2-clause-goes : goal.returns-in-None-2-clause-goes
 returns-in-None-2-clause-goes g c =
     let e = c.poll.ensures in
-    let none : is_some ((threads_in (g.I.CallLayer.own c.poll.new.self)).current) ≡ false = search rules in (
+    let none : is_some ((threads_in (g.I.CallLayer.local c.poll.new.self)).current) ≡ false = search rules in (
       e.under_way c.requires.buffer ∙ asleep_calls_no_more c.args.t _ _ c.in-None-2.is none,
       tt,
-      called_on _ _ (g.met.I.CallLayer.own_cpu _ _ c.requires.fits) c.in-None-2.is (e.called c.requires.buffer),
+      called_on _ _ (g.met.I.CallLayer.own_cpu _ _ c.requires.coupled) c.in-None-2.is (e.called c.requires.buffer),
     )
 
 pub returns-in-Some-clause-runs : goal.returns-in-Some-clause-runs

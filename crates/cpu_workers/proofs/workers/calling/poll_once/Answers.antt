@@ -7,8 +7,9 @@ pub returns-then-look-clause-goes : goal.returns-then-look-clause-goes
 returns-then-look-clause-goes g c =
     let e = c.look.ensures in (
       e.under_way ∙ c.requires.under_way,
-      subst (λ (own : Buffering). MayPollBegun c.args.t (threads_in own) c.args.begun) (sym e.own) c.requires.may,
-      keeps_on _ _ (g.met.I.CallLayer.own_cpu _ _ c.requires.fits) c.args.t c.args.call.now e.seen (ap (λ (own : Buffering). own.call_states) e.own),
+      subst (λ (local : Buffering). MayPollBegun c.args.t (threads_in local) c.args.begun) (sym e.local) c.requires.may,
+      keeps_on _ _ (g.met.I.CallLayer.own_cpu _ _ c.requires.coupled) c.args.t c.args.call.now e.history
+          (ap (λ (local : Buffering). local.call_states) e.local),
     )
 
 -- no poll: nothing has changed

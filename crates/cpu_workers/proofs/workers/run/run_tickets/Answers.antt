@@ -22,18 +22,18 @@ run_over-requires-clause-few g c = λ κs within.
 
 pub run_over-requires-clause-ready : goal.run_over-requires-clause-ready
 run_over-requires-clause-ready g c = λ κs within k m at.
-    ready_at (OpensPlan c.args.boot.now) c.args.shared.now c.args.boot.now.cpus (λ x. lock_phase (cpu_at k) x.seen ≡ Idle)
-    (λ x. acts_of edit_of x.seen) (c.in_ok-seats.ensures ∙ c.requires.keys) k m at refl refl c.requires.opens
+    ready_at (OpensPlan c.args.boot.now) c.args.shared.now c.args.boot.now.cpus (λ x. lock_phase (cpu_at k) x.history ≡ Idle)
+    (λ x. acts_of edit_of x.history) (c.in_ok-seats.ensures ∙ c.requires.keys) k m at refl refl c.requires.opens
 
 pub parted-requires : goal.parted-requires
 parted-requires g c =
     let e = c.in_ok-back.ensures in
-    let fits = left_fit c.args.shared.now c.args.boot.now.cpus (c.in_ok-seats.ensures ∙ c.requires.keys) c.in_ok-left.ensures.count c.cpus.ensures.cpus in
+    let coupled = left_fit c.args.shared.now c.args.boot.now.cpus (c.in_ok-seats.ensures ∙ c.requires.keys) c.in_ok-left.ensures.count c.cpus.ensures.cpus in
     record {
-      keys = (e.keys.0, fits _ e.keys.1);
-      traces = (e.traces.0, fits _ e.traces.1);
-      stops = (e.stops.0, fits _ e.stops.1);
-      taken = (e.taken.0, fits _ e.taken.1);
+      keys = (e.keys.0, coupled _ e.keys.1);
+      traces = (e.traces.0, coupled _ e.traces.1);
+      stops = (e.stops.0, coupled _ e.stops.1);
+      taken = (e.taken.0, coupled _ e.taken.1);
     }
 
 pub returns : goal.returns
@@ -42,8 +42,9 @@ returns g c =
     let its = c.in_ok-left.ensures in
     let plan = c.args.boot.now in
     subst (λ x. x) (λ i. HaveLeft plan (g.G.Gate.MayAnswer c.args.gate.now) c.args.turns c.args.shared.now (sym e.keys i) (sym e.traces i) (sym e.taken i)
-    (sym e.stops i)) (have_left plan (g.G.Gate.MayAnswer c.args.gate.now) c.args.turns c.args.shared.now c.in_ok-left.left.items (λ x. acts_of edit_of x.seen)
-    (λ x lawful. refl) c.in_ok-seats.seats.items (c.in_ok-seats.ensures ∙ c.requires.keys) its.count its.site its.owns its.left)
+    (sym e.stops i)) (have_left plan (g.G.Gate.MayAnswer c.args.gate.now) c.args.turns c.args.shared.now c.in_ok-left.left.items
+    (λ x. acts_of edit_of x.history)
+    (λ x lawful. refl) c.in_ok-seats.seats.items (c.in_ok-seats.ensures ∙ c.requires.keys) its.count its.machine_id its.owns its.left)
 
 pub run_over-requires-send-L : goal.run_over-requires-send-L
 run_over-requires-send-L g c = λ κs within.

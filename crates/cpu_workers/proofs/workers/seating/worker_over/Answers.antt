@@ -21,8 +21,8 @@ at_boot-requires-clause-guests g c =
     let count = c.len-buffers.ensures.value ∙ ap length c.caps.ensures.caps in
     rw (homes, count, c.in_ok-guests.ensures) (are_guests plan.cpus (length plan.caps) plan.tasks c.caps.ensures.within.tasks.each c.args.number.0)
 
-pub at_boot-requires-clause-seen : goal.at_boot-requires-clause-seen
-at_boot-requires-clause-seen g c = c.requires.unused.unseen
+pub at_boot-requires-clause-history : goal.at_boot-requires-clause-history
+at_boot-requires-clause-history g c = c.requires.unused.unseen
 
 pub at_boot-requires-clause-opens : goal.at_boot-requires-clause-opens
 at_boot-requires-clause-opens g c = c.requires.unused.opens

@@ -32,7 +32,7 @@ loop-number-preserved g c =
           (rw c.stretch_to.ensures (
             e.at_boot,
             λ m there.
-                let same : c.remove-machine.result ≡ m = cc (here, there) in e.site ∙ ap (λ x. g.I.CallLayer.site x) same,
+                let same : c.remove-machine.result ≡ m = cc (here, there) in e.machine_id ∙ ap (λ x. g.I.CallLayer.machine_id x) same,
           ));
     }
 

@@ -6,6 +6,6 @@ abbrev pub invariant-loop-number : goal.invariant-loop-number
 invariant-loop-number g l = record {
   machines_left : l.machines.items ≡ drop l.number l.fn.machines.items;
   workers : Numbered (λ k (w : Working). IsAtBoot l.boot (cpu_at k) w
-      × ((m : g.row.I-Machine.Denot) → slice_get l.fn.machines.items k ≡ Some m → w.site ≡ g.I.CallLayer.site m)) l.workers.items l.number
+      × ((m : g.row.I-Machine.Denot) → slice_get l.fn.machines.items k ≡ Some m → w.machine_id ≡ g.I.CallLayer.machine_id m)) l.workers.items l.number
       (length l.fn.machines.items) (vec_capacity l.workers);
 }

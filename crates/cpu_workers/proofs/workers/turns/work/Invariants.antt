@@ -5,5 +5,5 @@ use Rattle.cpu_workers.proofs.workers.turns.work.Given as goal
 abbrev pub invariant-loop : goal.invariant-loop
 invariant-loop g l = record {
   ran : Ran (g.G.Gate.MayAnswer l.gate) l.turns l.initial.worker l.worker l.taken l.held;
-  fits : l.taken ≤ most;
+  coupled : l.taken ≤ most;
 }

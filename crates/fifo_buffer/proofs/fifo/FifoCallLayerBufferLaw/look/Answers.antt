@@ -11,23 +11,23 @@ returns g c =
     let p = c.args.self.now in
     let cpu = C.cpu_of p.lower in
     let framed = c.look.ensures.framed in
-    let grown = c.look.ensures.seen in
-    let acts = law.own_cpu p.lower m c.requires.fits.0 in
+    let grown = c.look.ensures.history in
+    let acts = law.own_cpu p.lower m c.requires.coupled.0 in
     let lawful = rw framed.stays.opening at (law.lawful n cpu (framed.stays.acts cpu acts)) in
     record {
       still = search rules;
       waits = search rules;
       framed = framed_over _ framed refl refl
-          (rw (framed.stays.opening, framed.cpu, c.look.ensures.own, c.look.ensures.call)
-          (part_grown (C.opening m) cpu grown.others (C.seen m) (C.seen n) (grown.foreign cpu acts) lawful grown.is c.requires.fits.1))
-          (λ q other fits part. rw framed.stays.opening (part_grown (C.opening m) (C.cpu_of q.lower) grown.others (C.seen m) (C.seen n)
-          (grown.foreign (C.cpu_of q.lower) (law.own_cpu q.lower m fits)) lawful grown.is part));
-      own = search rules;
+          (rw (framed.stays.opening, framed.cpu, c.look.ensures.local, c.look.ensures.call)
+          (part_grown (C.opening m) cpu grown.others (C.history m) (C.history n) (grown.foreign cpu acts) lawful grown.is c.requires.coupled.1))
+          (λ q other coupled part. rw framed.stays.opening (part_grown (C.opening m) (C.cpu_of q.lower) grown.others (C.history m) (C.history n)
+          (grown.foreign (C.cpu_of q.lower) (law.own_cpu q.lower m coupled)) lawful grown.is part));
+      local = search rules;
       inside = search rules;
       under_way = search rules;
-      seen = rw framed.stays.opening
-          (seen_grown (λ d. C.ActsFor m d) _ (inner (C.opening m)) grown.others (C.seen m) (C.seen n) (λ d both. both.0) grown.foreign grown.is);
+      history = rw framed.stays.opening
+          (seen_grown (λ d. C.ActsFor m d) _ (inner (C.opening m)) grown.others (C.history m) (C.history n) (λ d both. both.0) grown.foreign grown.is);
       moves = rw framed.stays.opening
-          (moves_grown (C.opening m) (λ d. C.ActsFor m d) _ cpu [] grown.others (C.seen m) (C.seen n) (λ d both. both.0) grown.foreign tt grown.is);
+          (moves_grown (C.opening m) (λ d. C.ActsFor m d) _ cpu [] grown.others (C.history m) (C.history n) (λ d both. both.0) grown.foreign tt grown.is);
       tries = search rules;
     }

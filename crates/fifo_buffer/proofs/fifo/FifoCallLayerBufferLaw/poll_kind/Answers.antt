@@ -18,43 +18,43 @@ use Rattle.fifo_buffer.proofs.fifo.FifoCallLayerBufferLaw.poll_kind.Goals as goa
 
 -- what is known when the poll begins
 module _ (g : Over) (c : Start g) where
-  open g.C.ThreadLayer use {cpu_of, opening, own, seen, under_way}
+  open g.C.ThreadLayer use {cpu_of, opening, local, history, under_way}
 
   home : home_of (homes_in (opening c.args.m.now)) c.args.t ≡ Some (cpu_of c.args.self.now.lower)
   home = grind (arith, runs_home)
 
   there : IsSome (opening c.args.m.now (Buffer (buffer_of c.args.call.now)))
-  there = block_there (opening c.args.m.now) c.requires.fits.1.boots (buffer_of c.args.call.now) c.requires.there
+  there = block_there (opening c.args.m.now) c.requires.coupled.1.boots (buffer_of c.args.call.now) c.requires.there
 
 pub sections-init : goal.sections-init
 sections-init g c =
     let C = g.C.ThreadLayer in
     let m = c.args.m.now in
     let p = c.args.self.now in
-    let first = first_may (homes_in (C.opening m)) (C.cpu_of p.lower) (inner (C.opening m)) (buffer_sections (C.seen m)) (C.own p.lower)
+    let first = first_may (homes_in (C.opening m)) (C.cpu_of p.lower) (inner (C.opening m)) (buffer_sections (C.history m)) (C.local p.lower)
     p.call_states.call_states (C.under_way p.lower) p.calling c.args.t c.args.call.now (home g (goal.at.sections-init g c).Start)
-    c.requires.fits.1.calls c.requires.runs c.requires.hand c.requires.same c.requires.goes_on in
+    c.requires.coupled.1.calls c.requires.runs c.requires.hand c.requires.same c.requires.goes_on in
     record {
       still = refl;
       there = there g (goal.at.sections-init g c).Start;
-      fits = c.requires.fits.0;
+      coupled = c.requires.coupled.0;
       cpu = refl;
       on = record {
         may = first.0;
         others = first.1;
-        sizes = c.requires.fits.1.sizes;
+        sizes = c.requires.coupled.1.sizes;
         ended = refl;
         effect = refl;
         apart = λ u other. refl;
       };
-      begins = λ w. refl {a = buffering (C.own p.lower) p.call_states.call_states};
+      begins = λ w. refl {a = buffering (C.local p.lower) p.call_states.call_states};
       follows = λ w. absurd cc;
     }
 
 -- what one section did, of a call at a stage
 module _ (g : Over) (t : Tid) (call : Call) (p p1 : Fifo g.row.C.Denot) (m m1 : g.row.C-Machine.Denot) (cpu : CpuId) (stage : Stage)
     (report : SectionPoll) where
-  open g.C.ThreadLayer use {ActsFor, Fits, IsStepwise, MayHold, acts, cpu_of, opening, own, room, seen, site, under_way}
+  open g.C.ThreadLayer use {ActsFor, Coupled, IsStepwise, MayHold, acts, cpu_of, opening, local, room, history, machine_id, under_way}
 
   -- the call states before and after it, and the one with which the call continued
   abbrev before : List CallState
@@ -67,17 +67,18 @@ module _ (g : Over) (t : Tid) (call : Call) (p p1 : Fifo g.row.C.Denot) (m m1 : 
   goes = going (call_state_of before t) call
 
   record Did : Type 0 where
-    at_once : report.at_once ≡ is_at_once stage (is_handed (own p.lower).lock.slept (own p.lower).lock.sleep.threads.current)
-    section_polled : SectionPolled (homes_in (opening m)) (λ d. ActsFor m d) (inner (opening m)) cpu t call goes (seen m) (seen m1) (own p.lower) (own p1.lower)
+    at_once : report.at_once ≡ is_at_once stage (is_handed (local p.lower).lock.slept (local p.lower).lock.sleep.threads.current)
+    section_polled : SectionPolled (homes_in (opening m)) (λ d. ActsFor m d) (inner (opening m)) cpu t call goes (history m) (history m1) (local p.lower)
+        (local p1.lower)
         (under_way p1.lower) report.ended (call_state_of after t)
     call_states : after ≡ slice_set before t.0 (call_state_of after t)
-    woken : IsSome (slept_for (own p.lower).waits t) → m1 ≡ m
-    handed : IsSome (slept_for (own p.lower).lock.slept t) → m1 ≡ m
-    framed : Framed (λ q k. Fits q k) (λ q. cpu_of q) (λ k. opening k) (λ k. site k) (λ k. room k) (λ k d. ActsFor k d) (λ k d. MayHold k d)
+    woken : IsSome (slept_for (local p.lower).waits t) → m1 ≡ m
+    handed : IsSome (slept_for (local p.lower).lock.slept t) → m1 ≡ m
+    framed : Framed (λ q k. Coupled q k) (λ q. cpu_of q) (λ k. opening k) (λ k. machine_id k) (λ k. room k) (λ k d. ActsFor k d) (λ k d. MayHold k d)
         p.lower p1.lower m m1
     follows : IsStepwise → Follows (λ d. ActsFor m d) (table_of (queue_rules (lock_rules buffer_rules) (lock_moves buffer_rules))) (opening m) cpu
-        (stage_plan (homes_in (opening m)) cpu t call goes.stage goes (buffering (own p.lower) before)) (acts m) (acts m1)
-        (record { own = buffering (own p1.lower) after; answer = if report.ended then replied call goes goes.stage else None })
+        (stage_plan (homes_in (opening m)) cpu t call goes.stage goes (buffering (local p.lower) before)) (acts m) (acts m1)
+        (record { local = buffering (local p1.lower) after; answer = if report.ended then replied call goes goes.stage else None })
 
 module _ (g : Over) (c : Joined-stage g) where
   abbrev states : List CallState
@@ -139,7 +140,7 @@ sections-preserved g c =
     let did = did g at.Joined-stage in
     let goes = going (call_state_of states t) call in
     let later = call_state_of states1 t in
-    let handed = is_handed (C.own c.sections.self.lower).lock.slept (C.own c.sections.self.lower).lock.sleep.threads.current in
+    let handed = is_handed (C.local c.sections.self.lower).lock.slept (C.local c.sections.self.lower).lock.sleep.threads.current in
     let at_once = sym did.at_once ∙ c.if-polled-2.true in
     let called = before.on.may.called in
     let next = next_going did.section_polled handed c.if-polled.true at_once called in
@@ -148,14 +149,14 @@ sections-preserved g c =
     record {
       still = still;
       there = rw still (there g at.Start);
-      fits = did.framed.fits;
+      coupled = did.framed.coupled;
       cpu = did.framed.cpu ∙ before.cpu;
       on = record {
-        may = subst (λ x. MayPollSection O (buffer_sections (C.seen x)) t call (going later call) (C.own p1) (C.under_way p1)) still
-            (subst (λ (x : CallState). MayPollSection O (buffer_sections (C.seen m1)) t call x (C.own p1) (C.under_way p1)) (sym next)
+        may = subst (λ x. MayPollSection O (buffer_sections (C.history x)) t call (going later call) (C.local p1) (C.under_way p1)) still
+            (subst (λ (x : CallState). MayPollSection O (buffer_sections (C.history m1)) t call x (C.local p1) (C.under_way p1)) (sym next)
             (next_may did.section_polled handed c.if-polled.true at_once called));
         others = subst (λ x. (u : Tid) → home_of homes u ≡ Some cpu → same_tid t u ≡ false
-            → FitsAt O (buffer_sections (C.seen x)) (C.own p1) states1 u) still
+            → FitsAt O (buffer_sections (C.history x)) (C.local p1) states1 u) still
             (others_after did.section_polled (home g at.Start) called states states1 refl (same g at.Joined-stage) before.on.others);
         sizes = sizes_of did.section_polled states states1 did.call_states before.on.sizes;
         ended = did.section_polled.ended ∙ before.on.ended;
@@ -167,16 +168,16 @@ sections-preserved g c =
           let Acts0 : CpuId → Type 0 = λ d. C.ActsFor m d in
           let table = table_of (queue_rules (lock_rules buffer_rules) (lock_moves buffer_rules)) in
           let end = ended_of did.section_polled c.if-polled.true in
-          let own1 = buffering (C.own p1) states1 in
+          let own1 = buffering (C.local p1) states1 in
           let second1 = subst (λ (x : CallState). Follows Acts0 table (C.opening m) cpu (stage_plan homes cpu t call x.stage x own1) (C.acts m) new got) next
           second in
           subst (λ (o : Buffering). Follows Acts0 table (C.opening m) cpu (fifo_plan homes cpu t call o) (C.acts m) new got)
           (before.begins c.if-first.true)
-          (two_follows Acts0 table (C.opening m) cpu homes t call goes.stage goes (buffering (C.own c.sections.self.lower) states) (C.acts m) (C.acts m1) new
-          (record { own = own1; answer = if c.match-stage.polled.ended then replied call goes goes.stage else None }) got handed end.recorded_is.0
+          (two_follows Acts0 table (C.opening m) cpu homes t call goes.stage goes (buffering (C.local c.sections.self.lower) states) (C.acts m) (C.acts m1) new
+          (record { local = own1; answer = if c.match-stage.polled.ended then replied call goes goes.stage else None }) got handed end.recorded_is.0
           at_once end.recorded_is.1 (λ w. sym (did.section_polled.over w) ∙ c.if-polled.true)
-          (why_slept t goes.stage (C.own c.sections.self.lower) handed at_once
-          (marks_of O (buffer_sections (C.seen m)) t call goes (C.own c.sections.self.lower) (C.under_way c.sections.self.lower) before.on.may.goes)
+          (why_slept t goes.stage (C.local c.sections.self.lower) handed at_once
+          (marks_of O (buffer_sections (C.history m)) t call goes (C.local c.sections.self.lower) (C.under_way c.sections.self.lower) before.on.may.goes)
           before.on.may.current refl) end.free.0 end.free.1 (did.follows stepwise)
           (subst (λ log. Follows Acts0 table (C.opening m) cpu (stage_plan homes cpu t call later.stage later own1) log new got)
           (sym (ap C.acts still)) second1));
@@ -221,24 +222,24 @@ returns-in-sections g c =
           (in_call g (joined g c)) (answer g c) (replies g c));
       runs = search rules;
       under_way = search rules;
-      moves = rw (opens g c) (moves_grown (C.opening m) (λ d. C.ActsFor m d) _ cpu polled.mine polled.others (C.seen m) (C.seen m1) (λ d both. both.0)
+      moves = rw (opens g c) (moves_grown (C.opening m) (λ d. C.ActsFor m d) _ cpu polled.mine polled.others (C.history m) (C.history m1) (λ d both. both.0)
           polled.foreign polled.own_events polled.is);
       prompt = λ whole. absurd whole;
       framed =
           let law = g.met.C.ThreadLayer in
-          let lawful = rw (opens g c) at (law.lawful m1 cpu (did.framed.stays.acts cpu (law.own_cpu c.args.self.now.lower m c.requires.fits.0))) in
+          let lawful = rw (opens g c) at (law.lawful m1 cpu (did.framed.stays.acts cpu (law.own_cpu c.args.self.now.lower m c.requires.coupled.0))) in
           framed_over _ did.framed before.cpu c.complete.ensures.lower
           (rw (c.complete.ensures.lower, c.complete.ensures.call_states, c.complete.ensures.calling, (opens g c), did.framed.cpu ∙ before.cpu)
           (record {
-            boots = c.requires.fits.1.boots;
+            boots = c.requires.coupled.1.boots;
             sizes = sizes_of polled states states1 did.call_states before.on.sizes;
             calls = poll_done polled (home g (goal.at.returns-in-sections g c).Start) before.on.may.called states states1 refl (same g (joined g c))
                 before.on.others
                 (answer g c) (replies g c);
           }))
-          (λ q other fits part. rw (opens g c)
-          (other_part (C.opening m) cpu (C.cpu_of q.lower) other polled.mine polled.others (C.seen m) (C.seen m1) polled.own_events
-          (polled.foreign (C.cpu_of q.lower) (law.own_cpu q.lower m fits)) polled.is lawful part));
+          (λ q other coupled part. rw (opens g c)
+          (other_part (C.opening m) cpu (C.cpu_of q.lower) other polled.mine polled.others (C.history m) (C.history m1) polled.own_events
+          (polled.foreign (C.cpu_of q.lower) (law.own_cpu q.lower m coupled)) polled.is lawful part));
       follows = λ stepwise.
           let p = c.args.self.now in
           let t = c.args.t in
@@ -249,26 +250,27 @@ returns-in-sections g c =
           let Acts0 : CpuId → Type 0 = λ d. C.ActsFor m d in
           let table = table_of (queue_rules (lock_rules buffer_rules) (lock_moves buffer_rules)) in
           let got : Left Buffering Reply = record {
-            own = buffering (C.own c.match-stage.self.lower) states1;
+            local = buffering (C.local c.match-stage.self.lower) states1;
             answer = if c.match-stage.polled.ended then replied call went went.stage else None;
           } in
-          let handed = is_handed (C.own c.sections.self.lower).lock.slept (C.own c.sections.self.lower).lock.sleep.threads.current in
-          let marks = marks_of O (buffer_sections (C.seen m)) t call went (C.own c.sections.self.lower) (C.under_way c.sections.self.lower)
+          let handed = is_handed (C.local c.sections.self.lower).lock.slept (C.local c.sections.self.lower).lock.sleep.threads.current in
+          let marks = marks_of O (buffer_sections (C.history m)) t call went (C.local c.sections.self.lower) (C.under_way c.sections.self.lower)
           before.on.may.goes in
           let alone : c.sections.first ≡ true
           → ((c.match-stage.polled.ended ≡ true) × (is_at_once went.stage handed ≡ false)) ⊎ (c.match-stage.polled.ended ≡ false)
-          → Follows Acts0 table (C.opening m) cpu (fifo_plan homes cpu t call (buffering (C.own p.lower) p.call_states.call_states)) (C.acts m) (C.acts m1) got
+          → Follows Acts0 table (C.opening m) cpu (fifo_plan homes cpu t call (buffering (C.local p.lower) p.call_states.call_states)) (C.acts m) (C.acts m1)
+          got
           = λ is exits.
           let free = exit_free polled handed marks exits before.on.may.current refl in
           subst (λ (o : Buffering). Follows Acts0 table (C.opening m) cpu (fifo_plan homes cpu t call o) (C.acts m) (C.acts m1) got) (before.begins is)
           (one_follows Acts0 table (C.opening m) cpu homes t call went.stage went
-          (buffering (C.own c.sections.self.lower) states) (C.acts m) (C.acts m1) got (in_call g (joined g c)) free.0 free.1 (did.follows stepwise)) in
-          let done : Follows Acts0 table (C.opening m) cpu (fifo_plan homes cpu t call (buffering (C.own p.lower) p.call_states.call_states)) (C.acts m)
+          (buffering (C.local c.sections.self.lower) states) (C.acts m) (C.acts m1) got (in_call g (joined g c)) free.0 free.1 (did.follows stepwise)) in
+          let done : Follows Acts0 table (C.opening m) cpu (fifo_plan homes cpu t call (buffering (C.local p.lower) p.call_states.call_states)) (C.acts m)
           (C.acts m1) got = elim c.else-first.branch [
             | else-first-via-then-first+then-polled+else-polled-2 w ↦ alone w.if-first.true (inl (w.if-polled.true, sym did.at_once ∙ w.if-polled-2.false))
             | else-first-via-then-first+else-polled w ↦ alone w.if-first.true (inr w.if-polled.false)
             | else-first-via-else-first w ↦ before.follows w.if-first.false stepwise (C.acts m1) got (did.follows stepwise)
           ] in
           rw (c.complete.ensures.lower, c.complete.ensures.call_states, (replies g c)) (follows_for Acts0 _ (λ d both. both.0) table (C.opening m) cpu
-          (fifo_plan homes cpu t call (buffering (C.own p.lower) p.call_states.call_states)) (C.acts m) (C.acts m1) got done);
+          (fifo_plan homes cpu t call (buffering (C.local p.lower) p.call_states.call_states)) (C.acts m) (C.acts m1) got done);
     }

@@ -12,24 +12,24 @@ abbrev pub invariant-sections : goal.invariant-sections
 invariant-sections g l = record {
   still : l.m ≡ l.initial.m;
   there : IsSome (g.C.ThreadLayer.opening l.m (Buffer (buffer_of l.call)));
-  fits : g.C.ThreadLayer.Fits l.self.lower l.m;
+  coupled : g.C.ThreadLayer.Coupled l.self.lower l.m;
   cpu : g.C.ThreadLayer.cpu_of l.self.lower ≡ g.C.ThreadLayer.cpu_of l.initial.self.lower;
   on : IsGoing (homes_in (g.C.ThreadLayer.opening l.initial.m)) (inner (g.C.ThreadLayer.opening l.initial.m))
-      (buffer_sections (g.C.ThreadLayer.seen l.initial.m)) (g.C.ThreadLayer.cpu_of l.initial.self.lower) l.t l.call
-      (g.C.ThreadLayer.own l.initial.self.lower) (g.C.ThreadLayer.own l.self.lower) l.initial.self.call_states.call_states l.self.call_states.call_states
+      (buffer_sections (g.C.ThreadLayer.history l.initial.m)) (g.C.ThreadLayer.cpu_of l.initial.self.lower) l.t l.call
+      (g.C.ThreadLayer.local l.initial.self.lower) (g.C.ThreadLayer.local l.self.lower) l.initial.self.call_states.call_states l.self.call_states.call_states
       (g.C.ThreadLayer.under_way l.self.lower);
-  begins : l.first ≡ true → buffering (g.C.ThreadLayer.own l.self.lower) l.self.call_states.call_states
-      ≡ buffering (g.C.ThreadLayer.own l.initial.self.lower) l.initial.self.call_states.call_states;
+  begins : l.first ≡ true → buffering (g.C.ThreadLayer.local l.self.lower) l.self.call_states.call_states
+      ≡ buffering (g.C.ThreadLayer.local l.initial.self.lower) l.initial.self.call_states.call_states;
   follows : l.first ≡ false → g.C.ThreadLayer.IsStepwise → (new : List (Action (QueueEdit (CvCall BufferEdit)))) (got : Left Buffering Reply)
       → Follows (g.C.ThreadLayer.ActsFor l.initial.m) (table_of (queue_rules (lock_rules buffer_rules) (lock_moves buffer_rules)))
       (g.C.ThreadLayer.opening l.initial.m) (g.C.ThreadLayer.cpu_of l.initial.self.lower)
       (stage_plan (homes_in (g.C.ThreadLayer.opening l.initial.m)) (g.C.ThreadLayer.cpu_of l.initial.self.lower) l.t l.call
       (going (call_state_of l.self.call_states.call_states l.t) l.call).stage (going (call_state_of l.self.call_states.call_states l.t) l.call)
-      (buffering (g.C.ThreadLayer.own l.self.lower) l.self.call_states.call_states)) (g.C.ThreadLayer.acts l.initial.m) new got
+      (buffering (g.C.ThreadLayer.local l.self.lower) l.self.call_states.call_states)) (g.C.ThreadLayer.acts l.initial.m) new got
       → Follows (g.C.ThreadLayer.ActsFor l.initial.m) (table_of (queue_rules (lock_rules buffer_rules) (lock_moves buffer_rules)))
       (g.C.ThreadLayer.opening l.initial.m) (g.C.ThreadLayer.cpu_of l.initial.self.lower)
       (fifo_plan (homes_in (g.C.ThreadLayer.opening l.initial.m)) (g.C.ThreadLayer.cpu_of l.initial.self.lower) l.t l.call
-      (buffering (g.C.ThreadLayer.own l.initial.self.lower) l.initial.self.call_states.call_states)) (g.C.ThreadLayer.acts l.initial.m) new got;
+      (buffering (g.C.ThreadLayer.local l.initial.self.lower) l.initial.self.call_states.call_states)) (g.C.ThreadLayer.acts l.initial.m) new got;
 }
 
 abbrev pub decreases-sections : goal.decreases-sections

@@ -19,14 +19,14 @@ poll_kind-reply-requires g c =
     let wide = c.requires.room in
     let left = run_left _ _ _ _ _ _ _ _ _ c.loop-actions.invariant.so_far in
     let may = may_poll _ _ _ _ _ _ _ _ _ c.loop-actions.invariant.so_far (record {
-      fits = c.requires.fits;
+      coupled = c.requires.coupled;
       runs = c.requires.runs;
       hand = c.requires.hand;
       same = c.requires.same;
       goes_on = c.requires.goes_on;
     }) in
     record {
-      fits = may.fits;
+      coupled = may.coupled;
       there = rw left.1 c.requires.there;
       room = (let kept = left.0 in omega (arith, few, wide, kept));
       runs = may.runs;

@@ -10,28 +10,28 @@ use Rattle.fifo_buffer.proofs.fifo.FifoCallLayerBufferLaw.poll_on.Given as goal
 -- what a part of buffers reports as a layer of calls
 abbrev pub tells : (g : Over) → Ghosts (Fifo g.row.C.Denot) (Unit {0}) g.row.C-Machine.Denot
 tells g = let C = g.C.ThreadLayer in record {
-  seen = λ m. effects_in (inner (C.opening m)) (buffer_sections (C.seen m));
-  moves = λ m. moves_in (lock_kernel (cv_rules buffer_monitor_rules) (C.opening m)) (C.seen m);
-  wait_lists = λ m b line. wait_list_in line (lock_after (cv_rules buffer_monitor_rules) (inner (C.opening m)) (Buffer b) (buffer_sections (C.seen m)));
+  history = λ m. effects_in (inner (C.opening m)) (buffer_sections (C.history m));
+  moves = λ m. moves_in (lock_kernel (cv_rules buffer_monitor_rules) (C.opening m)) (C.history m);
+  wait_lists = λ m b line. wait_list_in line (lock_after (cv_rules buffer_monitor_rules) (inner (C.opening m)) (Buffer b) (buffer_sections (C.history m)));
   ActsFor = λ m c. C.ActsFor m c × BootsSo (C.opening m);
   room = λ m. C.room m;
-  site = λ m. C.site m;
+  machine_id = λ m. C.machine_id m;
   IsFresh = λ m homes c. (C.ActsFor m c × BootsSo (C.opening m)) × C.IsOutside m c
-      × (effects_in (inner (C.opening m)) (buffer_sections (C.seen m)) ≡ [])
-      × (moves_in (lock_kernel (cv_rules buffer_monitor_rules) (C.opening m)) (C.seen m) ≡ [])
+      × (effects_in (inner (C.opening m)) (buffer_sections (C.history m)) ≡ [])
+      × (moves_in (lock_kernel (cv_rules buffer_monitor_rules) (C.opening m)) (C.history m) ≡ [])
       × (homes_in (C.opening m) ≡ homes) × IsSome (C.opening m (Pending c))
       × (inner (C.opening m) ≡ opening_locks (caps_in (C.opening m)));
   MayHold = λ m c. C.MayHold m c;
   cpu_of = λ p. C.cpu_of p.lower;
   is_inside = λ p. C.is_inside p.lower;
   under_way = λ p. under_way_at p.calling (C.under_way p.lower);
-  Fits = λ p m. C.Fits p.lower m
-      × PartFits (C.opening m) (C.cpu_of p.lower) (C.seen m) (C.own p.lower) p.call_states.call_states (C.under_way p.lower) p.calling;
+  Coupled = λ p m. C.Coupled p.lower m
+      × PartFits (C.opening m) (C.cpu_of p.lower) (C.history m) (C.local p.lower) p.call_states.call_states (C.under_way p.lower) p.calling;
   IsWhole = ⊥;
   IsStepwise = C.IsStepwise;
   opening = λ m. C.opening m;
   acts = λ m. C.acts m;
-  own = λ p. buffering (C.own p.lower) p.call_states.call_states;
+  local = λ p. buffering (C.local p.lower) p.call_states.call_states;
 }
 
 -- fewer actions were done than may be, and the call was quiet so far

@@ -13,27 +13,27 @@ returns-clause-framed g c =
     let said = c.pass.ensures in
     let same = said.framed.stays.opening in
     record {
-      fits = (
-        said.framed.fits,
-        fits_after_pass (S.opening m) (S.opening n) (S.own p.lower) (S.own c.pass.new.self) p.call_states.call_states (S.under_way p.lower)
-            (S.under_way c.pass.new.self) p.calling c.args.call c.pass.result same said.call said.rest c.requires.goes_on c.requires.fits.1,
+      coupled = (
+        said.framed.coupled,
+        fits_after_pass (S.opening m) (S.opening n) (S.local p.lower) (S.local c.pass.new.self) p.call_states.call_states (S.under_way p.lower)
+            (S.under_way c.pass.new.self) p.calling c.args.call c.pass.result same said.call said.rest c.requires.goes_on c.requires.coupled.1,
       );
       cpu = said.framed.cpu;
       stays = record {
         opening = ap (viewed monitor_shown) same;
-        site = said.framed.stays.site;
+        machine_id = said.framed.stays.machine_id;
         room = said.framed.stays.room;
         acts = λ d acts. (said.framed.stays.acts d acts.0, fresh_still (S.opening m) (S.opening n) same acts.1);
       };
-      others = λ q other fits. (
-        said.framed.others q.lower other fits.0,
-        part_still (S.opening m) (S.opening n) same (S.own q.lower) q.call_states.call_states (S.under_way q.lower) q.calling fits.1,
+      others = λ q other coupled. (
+        said.framed.others q.lower other coupled.0,
+        part_still (S.opening m) (S.opening n) same (S.local q.lower) q.call_states.call_states (S.under_way q.lower) q.calling coupled.1,
       );
       holders = λ d other acts held. said.framed.holders d other acts.0 held;
     }
 
-pub returns-clause-seen : goal.returns-clause-seen
-returns-clause-seen g c =
+pub returns-clause-history : goal.returns-clause-history
+returns-clause-history g c =
     let S = g.S.ThreadLayer in
     let m = c.args.m.now in
     let n = c.pass.new.m in
@@ -41,7 +41,7 @@ returns-clause-seen g c =
     let said = c.pass.ensures in
     let Acts = λ (d : CpuId). S.ActsFor m d × OpensFresh (S.opening m) in
     rw said.framed.stays.opening (passed_seen (S.opening m) (λ d. S.ActsFor m d) Acts (λ d acts. acts.0) (S.cpu_of lower) c.args.call c.pass.result
-    (S.seen m) (S.seen n) (S.own lower).threads (S.own c.pass.new.self).threads said.seen)
+    (S.history m) (S.history n) (S.local lower).threads (S.local c.pass.new.self).threads said.history)
 
 pub returns-clause-passed : goal.returns-clause-passed
 returns-clause-passed g c =
@@ -52,10 +52,10 @@ returns-clause-passed g c =
     let said = c.pass.ensures in
     let Acts = λ (d : CpuId). S.ActsFor m d × OpensFresh (S.opening m) in
     rw said.framed.stays.opening (at_viewed monitor_shown (S.opening m)
-    (λ homes. PassPolled homes Acts (S.cpu_of lower) c.args.call c.pass.result (moves_in (sleep_kernel monitor_rules (S.opening m)) (S.seen m))
-    (moves_in (sleep_kernel monitor_rules (S.opening m)) (S.seen n)) (S.own lower).threads (S.own c.pass.new.self).threads)
-    (passed_moves (S.opening m) (λ d. S.ActsFor m d) Acts (λ d acts. acts.0) (S.cpu_of lower) c.args.call c.pass.result (S.seen m) (S.seen n)
-    (S.own lower).threads (S.own c.pass.new.self).threads said.seen))
+    (λ homes. PassPolled homes Acts (S.cpu_of lower) c.args.call c.pass.result (moves_in (sleep_kernel monitor_rules (S.opening m)) (S.history m))
+    (moves_in (sleep_kernel monitor_rules (S.opening m)) (S.history n)) (S.local lower).threads (S.local c.pass.new.self).threads)
+    (passed_moves (S.opening m) (λ d. S.ActsFor m d) Acts (λ d acts. acts.0) (S.cpu_of lower) c.args.call c.pass.result (S.history m) (S.history n)
+    (S.local lower).threads (S.local c.pass.new.self).threads said.history))
 
 pub returns-clause-under_way : goal.returns-clause-under_way
 returns-clause-under_way g c =

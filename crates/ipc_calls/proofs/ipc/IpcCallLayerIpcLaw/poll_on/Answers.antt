@@ -6,7 +6,7 @@ use Rattle.ipc_calls.proofs.ipc.IpcCallLayerIpcLaw.poll_on.Goals as goal
 pub returns-then-buffer-self-clause-polled_on : goal.returns-then-buffer-self-clause-polled_on
 returns-then-buffer-self-clause-polled_on g c =
     once (bad_number_refused g.B.CallLayer c.args.self.now c.args.t c.args.call.now c.args.self.now c.args.m.now
-    (rw (c.requires.fits.1.count_is, sym c.buffer.ensures) c.if-buffer-self.true) c.requires.fits)
+    (rw (c.requires.coupled.1.count_is, sym c.buffer.ensures) c.if-buffer-self.true) c.requires.coupled)
 
 -- any other call is the buffers'
 pub returns-clause-polled_on : goal.returns-clause-polled_on
@@ -14,4 +14,4 @@ returns-clause-polled_on g c =
     let within : c.buffer.result.0 < c.args.self.now.buffers = c.if-buffer-self.false in
     ran_over g.B.CallLayer c.args.self.now c.args.t c.args.call.now c.args.self.now.lower c.args.m.now c.poll_on.result.actions
     c.poll_on.new.self c.poll_on.new.m
-    c.poll_on.result.reply (rw (c.requires.fits.1.count_is, sym c.buffer.ensures) within) c.requires.fits.1 c.poll_on.ensures.polled_on
+    c.poll_on.result.reply (rw (c.requires.coupled.1.count_is, sym c.buffer.ensures) within) c.requires.coupled.1 c.poll_on.ensures.polled_on

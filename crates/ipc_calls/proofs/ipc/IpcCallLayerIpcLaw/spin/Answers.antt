@@ -5,10 +5,10 @@ returns-clause-spun g c =
     let spun = c.spin.ensures.spun in
     record {
       opening = spun.opening;
-      site = spun.site;
-      seen = spun.seen;
+      machine_id = spun.machine_id;
+      history = spun.history;
       room = spun.room;
       acts = spun.acts;
-      fits = λ p fits. (spun.fits p.lower fits.0, rw spun.opening fits.1);
+      coupled = λ p coupled. (spun.coupled p.lower coupled.0, rw spun.opening coupled.1);
       holders = spun.holders;
     }

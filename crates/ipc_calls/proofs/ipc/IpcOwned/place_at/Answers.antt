@@ -9,9 +9,9 @@ pub pends-requires-clause-queue : goal.pends-requires-clause-queue
 pends-requires-clause-queue g c =
     let law = g.met.B.CallLayer in
     let m = c.args.m.now in
-    let acts = law.own_cpu c.args.self.now.lower m c.requires.fits.0 in
+    let acts = law.own_cpu c.args.self.now.lower m c.requires.coupled.0 in
     (law.starts m (g.B.CallLayer.cpu_of c.args.self.now.lower) acts).queues c.args.t c.home-home.result
-    (subst (λ homes. home_of homes c.args.t ≡ Some c.home-home.result) c.requires.fits.1.homes_are c.home-home.ensures)
+    (subst (λ homes. home_of homes c.args.t ≡ Some c.home-home.result) c.requires.coupled.1.homes_are c.home-home.ensures)
 
 -- a thread that is reported in the pending queue of its home CPU is in it
 pub returns-then-pends-clause-observed : goal.returns-then-pends-clause-observed
@@ -21,14 +21,14 @@ returns-then-pends-clause-observed g c x is =
     let law = g.met.B.CallLayer in
     let m = c.args.m.now in
     let p = c.args.self.now.lower in
-    let fits = c.requires.fits in
-    let acts = law.own_cpu p m fits.0 in
+    let coupled = c.requires.coupled in
+    let acts = law.own_cpu p m coupled.0 in
     let home = c.home-home.result in
     let pends : where_is (homes_in (B.opening m)) (B.moves m) c.args.t ≡ IsPending home
-    = read_pends (λ q. B.Fits q m) (λ q. B.cpu_of q) (B.MayHold m) (homes_in (B.opening m)) (B.moves m)
-    c.args.t home p (λ q. O.queue_with q home) (O.queue_at m home) (law.moves_legal m (B.cpu_of p) acts) fits.0
+    = read_pends (λ q. B.Coupled q m) (λ q. B.cpu_of q) (B.MayHold m) (homes_in (B.opening m)) (B.moves m)
+    c.args.t home p (λ q. O.queue_with q home) (O.queue_at m home) (law.moves_legal m (B.cpu_of p) acts) coupled.0
     (g.met.B.OwnedBuffers.queues m (B.cpu_of p) home acts ((law.starts m (B.cpu_of p) acts).queues c.args.t home
-    (subst (λ homes. home_of homes c.args.t ≡ Some home) fits.1.homes_are c.home-home.ensures)))
+    (subst (λ homes. home_of homes c.args.t ≡ Some home) coupled.1.homes_are c.home-home.ensures)))
     (sym c.pends.ensures ∙ c.if-pends.true) in
     inr (ap queue_place pends ∙ is)
 
@@ -39,7 +39,7 @@ returns-in_err-buffer-clause-silent g c none =
     let m = c.args.m.now in
     let p = c.args.self.now.lower in
     let home = c.home-home.result in
-    let home_is = subst (λ homes. home_of homes c.args.t ≡ Some home) c.requires.fits.1.homes_are c.home-home.ensures in
+    let home_is = subst (λ homes. home_of homes c.args.t ≡ Some home) c.requires.coupled.1.homes_are c.home-home.ensures in
     record {
       away = c.in_default.ensures.away refl;
       pends = λ d at. subst (λ e. pends_read c.args.t (O.queue_at m e) (O.queue_with p e) ≡ false) (same_Some home d (sym home_is ∙ at))
@@ -55,13 +55,13 @@ returns-clause-observed g c x is =
     let law = g.met.B.CallLayer in
     let m = c.args.m.now in
     let p = c.args.self.now.lower in
-    let fits = c.requires.fits.0 in
+    let coupled = c.requires.coupled.0 in
     let buffer = c.in_ok-buffer.buffer in
     let line = c.in_ok-buffer.wait_list in
     let within = c.in_ok-buffer.ensures.within (buffer, line) refl in
     let sleeps : where_is (homes_in (B.opening m)) (B.moves m) c.args.t ≡ Asleep (At (Buffer buffer) line)
-    = read_sleeps (λ q. B.Fits q m) (λ q. B.cpu_of q) (B.MayHold m) (homes_in (B.opening m)) (B.moves m)
-    (length (caps_in (B.opening m))) (B.wait_lists m) (law.lists p m fits) buffer within c.args.t line p (λ q. O.wait_lists_with q buffer)
-    (O.wait_lists_at m buffer) fits
-    (g.met.B.OwnedBuffers.waiters_law m (B.cpu_of p) buffer (law.own_cpu p m fits) within) (c.in_ok-buffer.ensures.found (buffer, line) refl) in
+    = read_sleeps (λ q. B.Coupled q m) (λ q. B.cpu_of q) (B.MayHold m) (homes_in (B.opening m)) (B.moves m)
+    (length (caps_in (B.opening m))) (B.wait_lists m) (law.lists p m coupled) buffer within c.args.t line p (λ q. O.wait_lists_with q buffer)
+    (O.wait_lists_at m buffer) coupled
+    (g.met.B.OwnedBuffers.waiters_law m (B.cpu_of p) buffer (law.own_cpu p m coupled) within) (c.in_ok-buffer.ensures.found (buffer, line) refl) in
     inr (ap queue_place sleeps ∙ (sleeps_there buffer line ∙ (ap Some (sym c.waiters_of.ensures) ∙ is)))

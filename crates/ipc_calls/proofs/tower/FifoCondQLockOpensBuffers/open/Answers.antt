@@ -22,7 +22,7 @@ returns g c =
         none_seen = rw it.1.0 refl;
         none_moved = rw it.1.0 refl;
         room_is = it.1.1;
-      }) (both_ok r _ _ (both_ok r _ _ opens.locks opens.homes) (both_ok r _ _ opens.seen opens.room));
+      }) (both_ok r _ _ (both_ok r _ _ opens.locks opens.homes) (both_ok r _ _ opens.history opens.room));
       boot = IfOk-weaker r _ _ (λ m is. boots_well (viewed nested_lock_of (S.opening m)) caps is few) opens.locks;
       queues = search rules;
       fresh = IfOk-weaker r _ _
@@ -35,7 +35,7 @@ returns g c =
             viewed_there nested_lock_of (S.opening m) (Pending d) (it.0.1.1 d within),
             boots,
           ))
-          (both_ok r _ _ (both_ok r _ _ (both_ok r _ _ opens.locks opens.homes) (both_ok r _ _ opens.seen opens.queues))
+          (both_ok r _ _ (both_ok r _ _ (both_ok r _ _ opens.locks opens.homes) (both_ok r _ _ opens.history opens.queues))
           (both_ok r _ _ opens.acts opens.outside));
       acts = IfOk-weaker r _ _ (λ m it d within. (it.0 d within, boots_well (viewed nested_lock_of (S.opening m)) caps it.1 few))
           (both_ok r _ _ opens.acts opens.locks);

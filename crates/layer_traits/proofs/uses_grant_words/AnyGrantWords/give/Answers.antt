@@ -15,4 +15,4 @@ pub returns-clause-adds : goal.returns-clause-adds
 returns-clause-adds g c =
     let W = g.W.Words in
     let m = c.args.self.now in
-    adds_mapped (W.ActsFor m) (Free c.args.cpu c.args.lock (mark_of (W.edit_in c.args.mark))) (W.seen m) (W.seen c.free.new.self) c.free.ensures.adds
+    adds_mapped (W.ActsFor m) (Free c.args.cpu c.args.lock (mark_of (W.edit_in c.args.mark))) (W.history m) (W.history c.free.new.self) c.free.ensures.adds

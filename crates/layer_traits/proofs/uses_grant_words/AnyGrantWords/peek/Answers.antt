@@ -11,8 +11,8 @@ returns-clause-adds g c =
     let W = g.W.Words in
     let m = c.args.self.now in
     let adds = c.look.ensures.adds.1 in (
-      grant_word c.args.lock (c.args.ticket % CPUS) (as_grants (adds.others ++ W.seen m)),
-      adds_mapped (W.ActsFor m) (Look c.args.cpu c.args.lock c.args.ticket c.look.ensures.adds.0) (W.seen m) (W.seen c.look.new.self) adds,
+      grant_word c.args.lock (c.args.ticket % CPUS) (as_grants (adds.others ++ W.history m)),
+      adds_mapped (W.ActsFor m) (Look c.args.cpu c.args.lock c.args.ticket c.look.ensures.adds.0) (W.history m) (W.history c.look.new.self) adds,
     )
 
 pub returns-clause-hits : goal.returns-clause-hits
@@ -20,5 +20,5 @@ returns-clause-hits g c =
     let W = g.W.Words in
     let n = c.look.new.self in
     let acts = c.look.ensures.acts c.args.cpu c.requires.cpu in
-    let legal = words_legal (g.W.Edit.SplitEdit.rules.allowed (W.opening n)) (W.seen n) (g.met.W.Words.legal n c.args.cpu acts) in
-    hits_as_grants g.W.Edit.SplitEdit.rules.edited (W.opening n) (W.seen n) legal c.args.cpu c.args.lock c.args.ticket c.look.result c.look.ensures.hits
+    let legal = words_legal (g.W.Edit.SplitEdit.protocol.allowed (W.opening n)) (W.history n) (g.met.W.Words.legal n c.args.cpu acts) in
+    hits_as_grants g.W.Edit.SplitEdit.protocol.edited (W.opening n) (W.history n) legal c.args.cpu c.args.lock c.args.ticket c.look.result c.look.ensures.hits

@@ -11,9 +11,9 @@ returns-clause-adds g c =
     let W = g.W.Words in
     let m = c.args.self.now in
     let adds = c.spin.ensures.adds in (
-      grant_word c.args.lock (c.args.ticket % CPUS) (as_grants (W.seen m)),
-      ap as_grants {y = replicate c.spin.result (Look c.args.cpu c.args.lock c.args.ticket adds.0) ++ W.seen m} adds.1
-          ∙ as_peeks c.args.cpu c.args.lock c.args.ticket adds.0 (W.seen m) c.spin.result,
+      grant_word c.args.lock (c.args.ticket % CPUS) (as_grants (W.history m)),
+      ap as_grants {y = replicate c.spin.result (Look c.args.cpu c.args.lock c.args.ticket adds.0) ++ W.history m} adds.1
+          ∙ as_peeks c.args.cpu c.args.lock c.args.ticket adds.0 (W.history m) c.spin.result,
     )
 
 pub returns-clause-waits : goal.returns-clause-waits

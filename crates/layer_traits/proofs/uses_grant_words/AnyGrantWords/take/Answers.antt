@@ -9,4 +9,4 @@ pub returns-clause-adds : goal.returns-clause-adds
 returns-clause-adds g c =
     let W = g.W.Words in
     let m = c.args.self.now in
-    adds_mapped (W.ActsFor m) (Draw c.args.cpu c.args.lock c.draw.result) (W.seen m) (W.seen c.draw.new.self) c.draw.ensures.adds
+    adds_mapped (W.ActsFor m) (Draw c.args.cpu c.args.lock c.draw.result) (W.history m) (W.history c.draw.new.self) c.draw.ensures.adds

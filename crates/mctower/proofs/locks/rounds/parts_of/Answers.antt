@@ -13,8 +13,8 @@ loop-number-preserved g c =
       ready = λ m acts outside.
           rw items
           (one_part_more _ _ _ parts c.part.result m (inv.ready m acts outside) (record {
-            cpu = ap (λ (own : CpuId). own.0) c.part.ensures.cpu ∙ sym inv.long;
+            cpu = ap (λ (local : CpuId). local.0) c.part.ensures.cpu ∙ sym inv.long;
             rests = c.part.ensures.call;
-            fits = c.part.ensures.fits m (acts cpu c.loop-number-test.true) (outside cpu c.loop-number-test.true) tt;
+            coupled = c.part.ensures.coupled m (acts cpu c.loop-number-test.true) (outside cpu c.loop-number-test.true) tt;
           }));
     }

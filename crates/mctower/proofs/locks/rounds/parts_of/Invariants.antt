@@ -7,5 +7,5 @@ abbrev pub invariant-loop-number : goal.invariant-loop-number
 invariant-loop-number g l = record {
   long : length l.parts.items ≡ l.number;
   ready : (m : _) → ((c : CpuId) → c.0 < l.cpus → g.L.Layer.ActsFor m c) → ((c : CpuId) → c.0 < l.cpus → g.L.Layer.IsOutside m c)
-      → AreReady g.L.Layer.cpu_of g.L.Layer.under_way g.L.Layer.Fits l.parts.items m;
+      → AreReady g.L.Layer.cpu_of g.L.Layer.under_way g.L.Layer.Coupled l.parts.items m;
 }

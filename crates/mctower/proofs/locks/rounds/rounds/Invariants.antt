@@ -6,11 +6,11 @@ use Rattle.mctower.proofs.locks.rounds.rounds.Given as goal
 abbrev pub invariant-loop : goal.invariant-loop
 invariant-loop g l = record {
   long : length l.parts ≡ length l.fn.parts;
-  ready : AreReady g.L.Layer.cpu_of g.L.Layer.under_way g.L.Layer.Fits l.parts l.machine;
+  ready : AreReady g.L.Layer.cpu_of g.L.Layer.under_way g.L.Layer.Coupled l.parts l.machine;
   opening : g.L.Layer.opening l.machine ≡ g.L.Layer.opening l.fn.machine;
   room : g.L.Layer.room l.fn.machine ≤ g.L.Layer.room l.machine + 3 * (l.counter * length l.fn.parts);
   owned : (c : CpuId) → c.0 < CPUS → g.L.Layer.ActsFor l.machine c;
   rests : (c : CpuId) → phase c (g.L.Layer.acts l.machine) ≡ Rests;
-  counted : sections_at l.lock (g.L.Layer.seen l.machine) ≡ sections_at l.lock (g.L.Layer.seen l.fn.machine) + l.counter * length l.fn.parts;
+  counted : sections_at l.lock (g.L.Layer.history l.machine) ≡ sections_at l.lock (g.L.Layer.history l.fn.machine) + l.counter * length l.fn.parts;
   order : g.L.Layer.acts l.machine ≡ after_rounds l.lock (length l.fn.parts) l.counter (g.L.Layer.acts l.fn.machine);
 }

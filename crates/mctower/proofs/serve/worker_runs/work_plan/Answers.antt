@@ -33,8 +33,9 @@ returns-clause-works g c =
     ∙ ap (λ (n : ℕ). listed (λ b. items_of_block c.in-Ok-run_workers.report.blocks.items (buffer_at b)) 0 n)
     (c.len.ensures.value ∙ ap length c.caps-caps.ensures.caps) in
     of_read (WorksPlan c.args.turns) c.in-Ok.boot (plan_of c.args.plan.now) _ _ c.in-Ok.ensures.plan (inr
-    (plan_worked c.args.turns c.in-Ok.boot _ c.into_parts-traces.result.1 c.put_out.result (between g.O.Write.contents c.args.out.now c.write_lists.new.sink)
-    (between g.O.Write.contents c.args.out.now c.put_out.new.out) c.in-Ok-run_workers.ensures.words (ap (λ v. v.items) c.into_parts-traces.ensures.stops)
+    (plan_worked c.args.turns c.in-Ok.boot _ c.into_parts-traces.result.1 c.write_output.result
+    (between g.O.Write.contents c.args.out.now c.write_lists.new.sink)
+    (between g.O.Write.contents c.args.out.now c.write_output.new.out) c.in-Ok-run_workers.ensures.words (ap (λ v. v.items) c.into_parts-traces.ensures.stops)
     (subst (λ x. x) (λ i. Writes {A = Unit {0}} (caps i) (traces i) (left i) (Ok c.in_default.field-0)
     (between g.O.Write.contents c.args.out.now c.write_lists.new.sink)) c.in_default.ensures)
-    c.put_out.ensures.put.0 c.put_out.ensures.put.1.0 refl c.put_out.ensures.put.1.1))
+    c.write_output.ensures.put.0 c.write_output.ensures.put.1.0 refl c.write_output.ensures.put.1.1))

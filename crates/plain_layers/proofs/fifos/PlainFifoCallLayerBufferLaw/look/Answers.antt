@@ -7,16 +7,16 @@ returns g c = record {
   still = λ no. (refl, refl);
   waits = λ yes. absurd cc;
   framed = record {
-    fits = c.requires.fits;
+    coupled = c.requires.coupled;
     cpu = refl;
-    stays = record { opening = refl; site = refl; room = omega arith; acts = λ d acts. acts };
-    others = λ p other fits. fits;
+    stays = record { opening = refl; machine_id = refl; room = omega arith; acts = λ d acts. acts };
+    others = λ p other coupled. coupled;
     holders = λ d other acts held. held;
   };
-  own = refl;
+  local = refl;
   inside = refl;
   under_way = refl;
-  seen = record { others = []; foreign = λ d acts. tt; is = refl };
-  moves = record { others = []; mine = []; foreign = λ d acts. tt; own = tt; is = refl };
+  history = record { others = []; foreign = λ d acts. tt; is = refl };
+  moves = record { others = []; mine = []; foreign = λ d acts. tt; local = tt; is = refl };
   tries = λ step. absurd step;
 }

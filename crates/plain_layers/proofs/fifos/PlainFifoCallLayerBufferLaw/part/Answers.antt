@@ -5,11 +5,11 @@ use Rattle.plain_layers.{specs.{declared.attempts.Tried.Tried, Attempts.attempts
 use Rattle.plain_layers.proofs.FifoLemmas.{no_call_waits}
 use Rattle.plain_layers.proofs.fifos.PlainFifoCallLayerBufferLaw.part.Goals as goal
 
-pub returns-clause-fits : goal.returns-clause-fits
-returns-clause-fits g c m fresh count =
+pub returns-clause-coupled : goal.returns-clause-coupled
+returns-clause-coupled g c m fresh count =
     let S = g.S.ThreadLayer in (
-      c.part.ensures.fits m fresh.0.0 fresh.1 (
-        no_events (sleep_kernel attempts (S.opening m)) (S.seen m) fresh.3,
+      c.part.ensures.coupled m fresh.0.0 fresh.1 (
+        no_events (sleep_kernel attempts (S.opening m)) (S.history m) fresh.3,
         sym (homes_viewed plain_shown (S.opening m)) ∙ fresh.4,
         fresh.5,
         nobody_waits _ _ fresh.0.2.fresh,
@@ -18,7 +18,7 @@ returns-clause-fits g c m fresh count =
       fresh.0.2,
       record {
         none = c.part.ensures.call;
-        deferred = ap (λ (s : Sleeping Tried). s.deferred) c.part.ensures.own;
+        deferred = ap (λ (s : Sleeping Tried). s.deferred) c.part.ensures.local;
         waits = subst (λ (l : List CallState). (t : Tid) → (call_state_of l t).stage ≢ Idle → (call_state_of l t).effect ≡ None) (sym c.no_calls.ensures)
             no_call_waits;
         slots = ap (λ (l : List CallState). length l) c.no_calls.ensures ∙ length-replicate THREADS no_call;

@@ -9,24 +9,24 @@ returns-clause-framed g c =
     let S = g.S.ThreadLayer in
     let m = c.args.m.now in
     let n = c.pass.new.m in
-    let fits = c.requires.fits in
+    let coupled = c.requires.coupled in
     let said = c.pass.ensures in
     record {
-      fits = (
-        said.framed.fits,
-        fits.1,
-        owned_after (λ e. S.ActsFor m e) (λ e. S.ActsFor n e) (S.opening m) (S.opening n) said.framed.stays.opening said.framed.stays.acts fits.2,
+      coupled = (
+        said.framed.coupled,
+        coupled.1,
+        owned_after (λ e. S.ActsFor m e) (λ e. S.ActsFor n e) (S.opening m) (S.opening n) said.framed.stays.opening said.framed.stays.acts coupled.2,
         record {
-          none = nothing_under c.pass.result (S.under_way c.pass.new.self) _ (said.prompt fits.1) said.call;
-          deferred = said.rest ∙ fits.3.deferred;
-          waits = fits.3.waits;
-          slots = fits.3.slots;
+          none = nothing_under c.pass.result (S.under_way c.pass.new.self) _ (said.prompt coupled.1) said.call;
+          deferred = said.rest ∙ coupled.3.deferred;
+          waits = coupled.3.waits;
+          slots = coupled.3.slots;
         },
       );
       cpu = said.framed.cpu;
       stays = record {
         opening = ap (viewed plain_shown) said.framed.stays.opening;
-        site = said.framed.stays.site;
+        machine_id = said.framed.stays.machine_id;
         room = (let less = said.framed.stays.room in omega arith);
         acts = λ d acts. (
           said.framed.stays.acts d acts.0,
@@ -34,27 +34,27 @@ returns-clause-framed g c =
           owned_after (λ e. S.ActsFor m e) (λ e. S.ActsFor n e) (S.opening m) (S.opening n) said.framed.stays.opening said.framed.stays.acts acts.2,
         );
       };
-      others = λ p other fits. (
-        said.framed.others p.lower other fits.0,
-        fits.1,
-        owned_after (λ e. S.ActsFor m e) (λ e. S.ActsFor n e) (S.opening m) (S.opening n) said.framed.stays.opening said.framed.stays.acts fits.2,
-        fits.3,
+      others = λ p other coupled. (
+        said.framed.others p.lower other coupled.0,
+        coupled.1,
+        owned_after (λ e. S.ActsFor m e) (λ e. S.ActsFor n e) (S.opening m) (S.opening n) said.framed.stays.opening said.framed.stays.acts coupled.2,
+        coupled.3,
       );
       holders = λ d other acts held. said.framed.holders d other acts.0 held;
     }
 
-pub returns-clause-seen : goal.returns-clause-seen
-returns-clause-seen g c =
+pub returns-clause-history : goal.returns-clause-history
+returns-clause-history g c =
     let S = g.S.ThreadLayer in
     let m = c.args.m.now in
     let n = c.pass.new.m in
     let lower = c.args.self.now.lower in
-    let fits = c.requires.fits in
+    let coupled = c.requires.coupled in
     let said = c.pass.ensures in
     let Acts = λ (d : CpuId). S.ActsFor m d × S.IsWhole × IsOwned (λ e. S.ActsFor m e) (S.opening m) in
-    let known = g.met.S.ThreadLayer.known n (S.cpu_of lower) (said.framed.stays.acts (S.cpu_of lower) (g.met.S.ThreadLayer.own_cpu lower m fits.0)) in
-    rw said.framed.stays.opening (passed_seen (S.opening m) (λ d. S.ActsFor m d) (S.cpu_of lower) c.args.call c.pass.result (S.seen m) (S.seen n)
-    (S.own lower).threads (S.own c.pass.new.self).threads (record { all = fits.2.all; known = known; polled = said.seen }) Acts)
+    let known = g.met.S.ThreadLayer.known n (S.cpu_of lower) (said.framed.stays.acts (S.cpu_of lower) (g.met.S.ThreadLayer.own_cpu lower m coupled.0)) in
+    rw said.framed.stays.opening (passed_seen (S.opening m) (λ d. S.ActsFor m d) (S.cpu_of lower) c.args.call c.pass.result (S.history m) (S.history n)
+    (S.local lower).threads (S.local c.pass.new.self).threads (record { all = coupled.2.all; known = known; polled = said.history }) Acts)
 
 pub returns-clause-passed : goal.returns-clause-passed
 returns-clause-passed g c =
@@ -62,12 +62,12 @@ returns-clause-passed g c =
     let m = c.args.m.now in
     let n = c.pass.new.m in
     let lower = c.args.self.now.lower in
-    let fits = c.requires.fits in
+    let coupled = c.requires.coupled in
     let said = c.pass.ensures in
     let Acts = λ (d : CpuId). S.ActsFor m d × S.IsWhole × IsOwned (λ e. S.ActsFor m e) (S.opening m) in
-    let known = g.met.S.ThreadLayer.known n (S.cpu_of lower) (said.framed.stays.acts (S.cpu_of lower) (g.met.S.ThreadLayer.own_cpu lower m fits.0)) in
+    let known = g.met.S.ThreadLayer.known n (S.cpu_of lower) (said.framed.stays.acts (S.cpu_of lower) (g.met.S.ThreadLayer.own_cpu lower m coupled.0)) in
     rw said.framed.stays.opening (at_viewed plain_shown (S.opening m)
-    (λ homes. PassPolled homes Acts (S.cpu_of lower) c.args.call c.pass.result (moves_in (sleep_kernel attempts (S.opening m)) (S.seen m))
-    (moves_in (sleep_kernel attempts (S.opening m)) (S.seen n)) (S.own lower).threads (S.own c.pass.new.self).threads)
-    (passed_moves (S.opening m) (λ d. S.ActsFor m d) (S.cpu_of lower) c.args.call c.pass.result (S.seen m) (S.seen n)
-    (S.own lower).threads (S.own c.pass.new.self).threads (record { all = fits.2.all; known = known; polled = said.seen }) Acts (λ d acts. acts.0)))
+    (λ homes. PassPolled homes Acts (S.cpu_of lower) c.args.call c.pass.result (moves_in (sleep_kernel attempts (S.opening m)) (S.history m))
+    (moves_in (sleep_kernel attempts (S.opening m)) (S.history n)) (S.local lower).threads (S.local c.pass.new.self).threads)
+    (passed_moves (S.opening m) (λ d. S.ActsFor m d) (S.cpu_of lower) c.args.call c.pass.result (S.history m) (S.history n)
+    (S.local lower).threads (S.local c.pass.new.self).threads (record { all = coupled.2.all; known = known; polled = said.history }) Acts (λ d acts. acts.0)))

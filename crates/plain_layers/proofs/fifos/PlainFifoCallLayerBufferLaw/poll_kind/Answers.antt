@@ -9,7 +9,7 @@ use Rattle.plain_layers.proofs.fifos.PlainFifoCallLayerBufferLaw.poll_kind.Goals
 
 pub whole-outcome-requires-clause-buffer : goal.whole-outcome-requires-clause-buffer
 whole-outcome-requires-clause-buffer g c =
-    buffer_there (g.S.ThreadLayer.opening c.args.m.now) c.requires.fits.2.fresh c.buffer.result (rw c.buffer.ensures c.requires.there)
+    buffer_there (g.S.ThreadLayer.opening c.args.m.now) c.requires.coupled.2.fresh c.buffer.result (rw c.buffer.ensures c.requires.there)
 
 -- the thread that runs is one of the table
 module _ (g : Over) (c : After-from g) where
@@ -20,7 +20,7 @@ pub offset_bounds-self-from : goal.offset_bounds-self-from
 offset_bounds-self-from g c = let few = small g (goal.at.offset_bounds-self-from g c).After-from in omega (arith, few)
 
 pub listed : goal.listed
-listed g c = subst (λ n. c.from.result < n) (sym c.requires.fits.3.slots) (small g (goal.at.listed g c).After-from)
+listed g c = subst (λ n. c.from.result < n) (sym c.requires.coupled.3.slots) (small g (goal.at.listed g c).After-from)
 
 -- what the whole section did
 pub returns : goal.returns
@@ -29,7 +29,7 @@ returns g c =
     let m = c.args.m.now in
     let n = c.whole-outcome.new.m in
     let lower = c.args.self.now.lower in
-    let fits = c.requires.fits in
+    let coupled = c.requires.coupled in
     let said = c.whole-outcome.ensures in
     let call = c.args.call.now in
     let effect = effect_in c.whole-outcome.result.out in
@@ -40,47 +40,48 @@ returns g c =
     let before = c.args.self.now.call_states in
     let states = slice_set before c.from.result c.next.result in
     let set : states ≡ slice_set before c.args.t.0 (call_state_after call effect) = λ i. slice_set before (c.from.ensures i) (after i) in
-    let within : c.args.t.0 < length before = rw (← c.from.ensures, fits.3.slots) small in
-    let told = subst (λ (f : Option Effect). option_map (λ kind. reply_with kind f) c.reply.result ≡ reply_to call f) c.effect-effect.ensures
+    let within : c.args.t.0 < length before = rw (← c.from.ensures, coupled.3.slots) small in
+    let abstract_answer = subst (λ (f : Option Effect). option_map (λ kind. reply_with kind f) c.reply.result ≡ reply_to call f) c.effect-effect.ensures
     c.reply.ensures in
     let answer = answer_in states c.args.t c.reply.result in
     let answered : answer ≡ reply_to call effect
-    = ap (λ l. answer_in l c.args.t c.reply.result) set ∙ reply_left before c.args.t call effect c.reply.result within told in
+    = ap (λ l. answer_in l c.args.t c.reply.result) set ∙ reply_left before c.args.t call effect c.reply.result within abstract_answer in
     let owned = owned_after (λ e. S.ActsFor m e) (λ e. S.ActsFor n e) (S.opening m) (S.opening n) said.opening said.acts in
     record {
       nothing = λ none. let there = c.requires.there in absurd (omega (arith, none, there));
-      called = λ there. rw said.opening (done_called (S.opening m) (S.cpu_of lower) c.buffer.result c.attempt_in.result (S.seen m) (S.seen n)
-          (S.own lower).threads (S.own c.whole-outcome.new.part) c.whole-outcome.result said.done Acts c.args.t call before states
-          c.attempt_in.ensures c.buffer.ensures within c.requires.same fits.3.waits set answer answered);
+      called = λ there. rw said.opening (done_called (S.opening m) (S.cpu_of lower) c.buffer.result c.attempt_in.result (S.history m) (S.history n)
+          (S.local lower).threads (S.local c.whole-outcome.new.part) c.whole-outcome.result said.done Acts c.args.t call before states
+          c.attempt_in.ensures c.buffer.ensures within c.requires.same coupled.3.waits set answer answered);
       runs = search rules;
       under_way = search rules;
-      moves = rw said.opening (done_moves (S.opening m) (S.cpu_of lower) c.buffer.result c.attempt_in.result (S.seen m) (S.seen n)
-          (S.own lower).threads (S.own c.whole-outcome.new.part) c.whole-outcome.result said.done Acts);
+      moves = rw said.opening (done_moves (S.opening m) (S.cpu_of lower) c.buffer.result c.attempt_in.result (S.history m) (S.history n)
+          (S.local lower).threads (S.local c.whole-outcome.new.part) c.whole-outcome.result said.done Acts);
       prompt = λ whole none.
           let nothing = reply_none call effect (sym answered ∙ none) in (
-            rw said.opening (done_refused (S.opening m) (S.cpu_of lower) c.buffer.result c.attempt_in.result (S.seen m) (S.seen n) (S.own lower).threads
-                (S.own c.whole-outcome.new.part) c.whole-outcome.result said.done c.args.t call c.attempt_in.ensures c.buffer.ensures fits.2.fresh nothing),
-            done_sleeps (S.opening m) (S.cpu_of lower) c.buffer.result c.attempt_in.result (S.seen m) (S.seen n) (S.own lower).threads
-                (S.own c.whole-outcome.new.part) c.whole-outcome.result said.done nothing,
+            rw said.opening (done_refused (S.opening m) (S.cpu_of lower) c.buffer.result c.attempt_in.result (S.history m) (S.history n) (S.local lower).threads
+                (S.local c.whole-outcome.new.part) c.whole-outcome.result said.done c.args.t call c.attempt_in.ensures c.buffer.ensures coupled.2.fresh
+                nothing),
+            done_sleeps (S.opening m) (S.cpu_of lower) c.buffer.result c.attempt_in.result (S.history m) (S.history n) (S.local lower).threads
+                (S.local c.whole-outcome.new.part) c.whole-outcome.result said.done nothing,
           );
       framed = record {
-        fits = (
-          said.fits,
-          fits.1,
-          owned fits.2,
+        coupled = (
+          said.coupled,
+          coupled.1,
+          owned coupled.2,
           record {
             none = said.none;
-            deferred = done_deferred (S.opening m) (S.cpu_of lower) c.buffer.result c.attempt_in.result (S.seen m) (S.seen n) (S.own lower).threads
-                (S.own c.whole-outcome.new.part) c.whole-outcome.result said.done;
+            deferred = done_deferred (S.opening m) (S.cpu_of lower) c.buffer.result c.attempt_in.result (S.history m) (S.history n) (S.local lower).threads
+                (S.local c.whole-outcome.new.part) c.whole-outcome.result said.done;
             waits = subst (λ (l : List CallState). (u : Tid) → (call_state_of l u).stage ≢ Idle → (call_state_of l u).effect ≡ None) (sym set)
-                (set_waits before c.args.t call effect within fits.3.waits);
-            slots = length-set before c.from.result c.next.result ∙ fits.3.slots;
+                (set_waits before c.args.t call effect within coupled.3.waits);
+            slots = length-set before c.from.result c.next.result ∙ coupled.3.slots;
           },
         );
         cpu = said.cpu;
         stays = record {
           opening = ap (viewed plain_shown) said.opening;
-          site = said.site;
+          machine_id = said.machine_id;
           room = (let less = said.room in omega arith);
           acts = λ d acts. (said.acts d acts.0, acts.1, owned acts.2);
         };

@@ -18,15 +18,15 @@ returns g c =
       opened = where_ok r _ (λ m is. record {
         caps_are = caps_observed (S.opening m) caps (IfOk-at_ok _ is opens.buffers) few;
         homes_are = homes_viewed plain_shown (S.opening m) ∙ IfOk-at_ok _ is opens.homes;
-        none_seen = rw (IfOk-at_ok _ is opens.seen) refl;
-        none_moved = rw (IfOk-at_ok _ is opens.seen) refl;
+        none_seen = rw (IfOk-at_ok _ is opens.history) refl;
+        none_moved = rw (IfOk-at_ok _ is opens.history) refl;
         room_is = half_room c.args.room (S.room m) (IfOk-at_ok _ is opens.room);
       });
       boot = IfOk-weaker r (λ m. inner (S.opening m) ≡ fresh_buffers caps) _ (λ m fresh. boots_shown (S.opening m) caps fresh few) opens.buffers;
       queues = search rules;
       fresh = where_ok r _ (λ m is d within.
           let acts = IfOk-at_ok _ is opens.acts in
-          let none = IfOk-at_ok _ is opens.seen in
+          let none = IfOk-at_ok _ is opens.history in
           let fresh = fresh_read (S.opening m) caps (IfOk-at_ok _ is opens.buffers) few in (
             (acts d (omega (arith, within, cpus)), g.met.S.OpensAttempts.whole.0, record { all = acts; fresh = fresh }),
             IfOk-at_ok _ is opens.outside d,

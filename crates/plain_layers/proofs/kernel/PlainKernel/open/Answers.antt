@@ -11,13 +11,13 @@ returns g c =
       buffers = length c.args.buffers.items;
       are = c.requires;
       opened = c.of-opened.ensures;
-      told = ap (λ v. v.items) c.of-homes.ensures ∙ c.kept_homes-told.ensures;
+      abstract_answer = ap (λ v. v.items) c.of-homes.ensures ∙ c.kept_homes-abstract_answer.ensures;
       empty = c.in_ok-pending.ensures;
     } in
     record {
-      sound = subst (λ past. IsKernel g.E.SplitEdit.rules g.E.Moves.moves start past lists) (sym (ap reverse c.in_ok-log.ensures.empty))
-          (kernel_fresh start lists c.args.cpus c.args.homes.now opens g.E.SplitEdit.rules g.E.Moves.moves);
-      seen = ap reverse c.in_ok-log.ensures.empty;
+      sound = subst (λ past. IsKernel g.E.SplitEdit.protocol g.E.Moves.moves start past lists) (sym (ap reverse c.in_ok-log.ensures.empty))
+          (kernel_fresh start lists c.args.cpus c.args.homes.now opens g.E.SplitEdit.protocol g.E.Moves.moves);
+      history = ap reverse c.in_ok-log.ensures.empty;
       room = search rules;
       homes = homes_read start lists c.args.cpus c.args.homes.now opens;
       queues = queue_is_there start lists c.args.cpus c.args.homes.now opens;

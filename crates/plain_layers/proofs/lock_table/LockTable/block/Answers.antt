@@ -3,7 +3,7 @@ use Rattle.plain_layers.{specs.Tables.sections_noted, proofs.TableLemmas.{block_
 use Rattle.plain_layers.proofs.lock_table.LockTable.block.Goals as goal
 
 pub slot_of-slot-requires : goal.slot_of-slot-requires
-slot_of-slot-requires g c = rw c.deref.ensures.value (block_is_there g.E.SplitEdit.rules (opening_in c.args.self.now) (sections_noted c.args.self.now) _
+slot_of-slot-requires g c = rw c.deref.ensures.value (block_is_there g.E.SplitEdit.protocol (opening_in c.args.self.now) (sections_noted c.args.self.now) _
     c.requires.sound c.args.lock c.requires.lock)
 
 pub index-requires : goal.index-requires

@@ -7,16 +7,16 @@ use Rattle.plain_layers.specs.{Kernels.{calls_in, opening_of}, QLocks.{calls_of,
 use Rattle.plain_layers.proofs.qlocks.PlainQLockThreadLayerQLockLaw.part.Goals as goal
 
 -- no thread has slept, and nothing is kept
-pub returns-clause-fits : goal.returns-clause-fits
-returns-clause-fits g c = λ m acts outside boots.
+pub returns-clause-coupled : goal.returns-clause-coupled
+returns-clause-coupled g c = λ m acts outside boots.
     let opening = opening_of m.opening in
     let blocks = viewed state_of opening in (
-      c.part.ensures.fits m acts outside (
+      c.part.ensures.coupled m acts outside (
         nothing_seen (calls_in m) (nothing_seen_at_the_lock (renamed_events slept_edit (calls_in m)) boots.0),
         sym (homes_viewed state_of opening) ∙ (sym (homes_viewed nested_lock_of blocks) ∙ boots.1),
         there_viewed state_of opening (Pending c.args.cpu) (there_viewed nested_lock_of blocks (Pending c.args.cpu) boots.2),
       ),
       nobody_beneath opening (nobody_asks blocks boots.3),
-      slept_none g.F.Locked.rules (locks_of opening) c.part.result.cpu (calls_of (calls_in m)) _ THREADS refl,
+      slept_none g.F.Locked.protocol (locks_of opening) c.part.result.cpu (calls_of (calls_in m)) _ THREADS refl,
       (tt, tt),
     )

@@ -2,5 +2,5 @@ use Rattle.std.proofs.Common.{[], refl}
 use Rattle.plain_layers.proofs.queues.PlainQueuesLayerQueueLaw.look.Goals as goal
 
 -- nothing was seen
-pub returns-clause-seen : goal.returns-clause-seen
-returns-clause-seen g c = record { others = []; foreign = λ d acts. tt; is = refl }
+pub returns-clause-history : goal.returns-clause-history
+returns-clause-history g c = record { others = []; foreign = λ d acts. tt; is = refl }

@@ -3,8 +3,8 @@ use Rattle.plain_layers.proofs.queues.PlainQueuesLayerQueueLaw.poll.Goals as goa
 
 -- a call that stays allowed is allowed now
 pub done-requires-clause-call : goal.done-requires-clause-call
-done-requires-clause-call g c = c.requires.call [] tt c.requires.fits.1.lawful
+done-requires-clause-call g c = c.requires.call [] tt c.requires.coupled.1.lawful
 
 -- nothing was added before it
-pub returns-clause-seen : goal.returns-clause-seen
-returns-clause-seen g c = record { others = []; foreign = λ d acts. tt; is = c.done.ensures.seen; answers = c.done.ensures.answer }
+pub returns-clause-history : goal.returns-clause-history
+returns-clause-history g c = record { others = []; foreign = λ d acts. tt; is = c.done.ensures.history; answers = c.done.ensures.answer }

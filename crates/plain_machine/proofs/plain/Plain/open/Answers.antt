@@ -10,6 +10,6 @@ returns-clause-opening g c = ap (λ blocks. opened blocks.items) c.of-opening.en
 pub returns-clause-acts : goal.returns-clause-acts
 returns-clause-acts g c = λ cpu known. (
   known,
-  rw (c.of-opening.ensures, c.in_ok-log.ensures.history)
-      (fresh_sound g.K.LineWords.Fit g.E.SplitEdit.rules c.args.blocks.items c.fill.new.cells.items c.fill.ensures),
+  rw (c.of-opening.ensures, c.in_ok-log.ensures.event_list)
+      (fresh_sound g.K.LockQueueWords.Coupling g.E.SplitEdit.protocol c.args.blocks.items c.fill.new.cells.items c.fill.ensures),
 )

@@ -8,43 +8,44 @@ pub returns-clause-framed : goal.returns-clause-framed
 returns-clause-framed g c =
     let S = g.S.ThreadLayer in
     let met = g.met.S.ThreadLayer in
-    let rules = g.F.Locked.rules in
+    let protocol = g.F.Locked.protocol in
     let self = c.args.self.now in
     let m = c.args.m.now in
     let cpu = S.cpu_of self.lower in
-    let acts = met.own_cpu self.lower m c.requires.fits.0 in
+    let acts = met.own_cpu self.lower m c.requires.coupled.0 in
     let said = c.look.ensures in
     let n = c.look.new.m in
     let lawful = rw said.framed.stays.opening at (met.lawful n cpu (said.framed.stays.acts cpu acts)) in
-    let grown = grows_renamed lock_call (λ d. S.ActsFor m d) (S.seen m) (S.seen n) said.seen in
+    let grown = grows_renamed lock_call (λ d. S.ActsFor m d) (S.history m) (S.history n) said.history in
     let after = λ (d : CpuId) (acts : S.ActsFor m d) (slept : List (Option BufId))
-    (fits : SleptFits rules (viewed nested_lock_of (S.opening m)) d (renamed_events lock_call (S.seen m)) slept).
-    transport (λ i. SleptFits rules (viewed nested_lock_of (sym said.framed.stays.opening i)) d (renamed_events lock_call (S.seen n)) slept)
-    (slept_goes rules (viewed nested_lock_of (S.opening m)) d grown.others (renamed_events lock_call (S.seen m)) (renamed_events lock_call (S.seen n))
-    (grown.foreign d acts) grown.is (locks_lawful rules (S.opening m) (S.seen n) lawful) slept fits) in
+    (coupled : SleptFits protocol (viewed nested_lock_of (S.opening m)) d (renamed_events lock_call (S.history m)) slept).
+    transport (λ i. SleptFits protocol (viewed nested_lock_of (sym said.framed.stays.opening i)) d (renamed_events lock_call (S.history n)) slept)
+    (slept_goes protocol (viewed nested_lock_of (S.opening m)) d grown.others (renamed_events lock_call (S.history m)) (renamed_events lock_call (S.history n))
+    (grown.foreign d acts) grown.is (locks_lawful protocol (S.opening m) (S.history n) lawful) slept coupled) in
     record {
-      fits = (
-        said.framed.fits,
-        subst (λ d. SleptFits rules (viewed nested_lock_of (S.opening n)) d (renamed_events lock_call (S.seen n)) self.slept.buffers) (sym said.framed.cpu)
-            (after cpu acts self.slept.buffers c.requires.fits.1),
-        transport (λ i. DeferredFits (option_map (renamed_sched lock_call) (sym said.call i)) (sym said.own i).deferred
-            (sym said.own i).threads.hand) c.requires.fits.2,
+      coupled = (
+        said.framed.coupled,
+        subst (λ d. SleptFits protocol (viewed nested_lock_of (S.opening n)) d (renamed_events lock_call (S.history n)) self.slept.buffers)
+            (sym said.framed.cpu)
+            (after cpu acts self.slept.buffers c.requires.coupled.1),
+        transport (λ i. DeferredFits (option_map (renamed_sched lock_call) (sym said.call i)) (sym said.local i).deferred
+            (sym said.local i).threads.hand) c.requires.coupled.2,
       );
       cpu = said.framed.cpu;
       stays = viewed_stays (viewed nested_lock_of) said.framed.stays;
-      others = λ p apart fits. (
-        said.framed.others p.lower apart fits.0,
-        after (S.cpu_of p.lower) (met.own_cpu p.lower m fits.0) p.slept.buffers fits.1,
-        fits.2,
+      others = λ p apart coupled. (
+        said.framed.others p.lower apart coupled.0,
+        after (S.cpu_of p.lower) (met.own_cpu p.lower m coupled.0) p.slept.buffers coupled.1,
+        coupled.2,
       );
       holders = said.framed.holders;
     }
 
-pub returns-clause-seen : goal.returns-clause-seen
-returns-clause-seen g c =
+pub returns-clause-history : goal.returns-clause-history
+returns-clause-history g c =
     let S = g.S.ThreadLayer in
     let m = c.args.m.now in
-    grows_renamed lock_call (λ d. S.ActsFor m d) (S.seen m) (S.seen c.look.new.m) c.look.ensures.seen
+    grows_renamed lock_call (λ d. S.ActsFor m d) (S.history m) (S.history c.look.new.m) c.look.ensures.history
 
 pub returns-clause-tries : goal.returns-clause-tries
 returns-clause-tries g c = λ step looked.

@@ -8,15 +8,16 @@ returns-clause-spun g c =
     let spun = c.spin.ensures.spun in
     record {
       opening = ap (viewed nested_lock_of) spun.opening;
-      site = spun.site;
-      seen = ap (renamed_events lock_call) spun.seen;
+      machine_id = spun.machine_id;
+      history = ap (renamed_events lock_call) spun.history;
       room = spun.room;
       acts = spun.acts;
-      fits = λ p fits. (
-        spun.fits p.lower fits.0,
-        transport (λ i. SleptFits g.F.Locked.rules (viewed nested_lock_of (sym spun.opening i)) (S.cpu_of p.lower) (renamed_events lock_call (sym spun.seen i))
-            p.slept.buffers) fits.1,
-        fits.2,
+      coupled = λ p coupled. (
+        spun.coupled p.lower coupled.0,
+        transport (λ i. SleptFits g.F.Locked.protocol (viewed nested_lock_of (sym spun.opening i)) (S.cpu_of p.lower)
+            (renamed_events lock_call (sym spun.history i))
+            p.slept.buffers) coupled.1,
+        coupled.2,
       );
       holders = spun.holders;
     }

@@ -3,10 +3,10 @@ use Rattle.shared_queue.proofs.FrameLemmas.{frame_raised}
 use Rattle.shared_queue.proofs.shared.SharedQueuesLayerQueueLaw.look.Goals as goal
 
 -- environment sections are environment calls
-pub returns-clause-seen : goal.returns-clause-seen
-returns-clause-seen g c = event_grows _ _ (λ d both. both.0) _ _ c.look.ensures.seen
+pub returns-clause-history : goal.returns-clause-history
+returns-clause-history g c = event_grows _ _ (λ d both. both.0) _ _ c.look.ensures.history
 
 -- and the queues have no state
 pub returns-clause-framed : goal.returns-clause-framed
 returns-clause-framed g c =
-    frame_raised _ g.L.Layer.under_way c.requires.fits.1 c.look.ensures.framed (subst IsProperCall (sym c.look.ensures.call) c.requires.fits.2)
+    frame_raised _ g.L.Layer.under_way c.requires.coupled.1 c.look.ensures.framed (subst IsProperCall (sym c.look.ensures.call) c.requires.coupled.2)

@@ -6,10 +6,10 @@ returns-clause-spun g c =
     let spun = c.spin.ensures.spun in
     record {
       opening = spun.opening;
-      site = spun.site;
-      seen = ap (map event_of) spun.seen;
+      machine_id = spun.machine_id;
+      history = ap (map event_of) spun.history;
       room = spun.room;
       acts = λ d acts. (spun.acts d acts.0, subst StartsWell (sym spun.opening) acts.1);
-      fits = λ p fits. (spun.fits p.lower fits.0, subst StartsWell (sym spun.opening) fits.1, fits.2);
+      coupled = λ p coupled. (spun.coupled p.lower coupled.0, subst StartsWell (sym spun.opening) coupled.1, coupled.2);
       holders = spun.holders;
     }

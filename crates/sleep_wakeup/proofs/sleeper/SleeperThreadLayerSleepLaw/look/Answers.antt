@@ -2,11 +2,11 @@ use Rattle.layer_traits.{specs.Views.Renaming.renamed_edit, proofs.{KernelRenami
 use Rattle.sleep_wakeup.specs.Nested.{slept_edit}
 use Rattle.sleep_wakeup.proofs.sleeper.SleeperThreadLayerSleepLaw.look.Goals as goal
 
-pub returns-clause-seen : goal.returns-clause-seen
-returns-clause-seen g c =
+pub returns-clause-history : goal.returns-clause-history
+returns-clause-history g c =
     let S = g.S.Layer in
     let m = c.args.m.now in
-    grows_renamed slept_edit (λ d. S.ActsFor m d) (S.seen m) (S.seen c.look.new.m) c.look.ensures.seen
+    grows_renamed slept_edit (λ d. S.ActsFor m d) (S.history m) (S.history c.look.new.m) c.look.ensures.history
 
 pub returns-clause-tries : goal.returns-clause-tries
 returns-clause-tries g c = λ step looked.

@@ -1,5 +1,5 @@
 use Rattle.{std.proofs.Common.{ap, subst, sym}, layer_traits.specs.{Blocks.QueueBlocks.inner, Views.Renaming.{renamed_edit, renamed_events, viewed}}}
-use Rattle.{layer_traits.{specs.Layers.Sleeping.NobodySleeps, proofs.SpinLemmas.misses_renamed}, sleep_wakeup.specs.Nested.{slept_edit, state_of, states}}
+use Rattle.{layer_traits.{specs.Layers.Sleeping.NoSleepers, proofs.SpinLemmas.misses_renamed}, sleep_wakeup.specs.Nested.{slept_edit, state_of, states}}
 use Rattle.sleep_wakeup.proofs.sleeper.SleeperThreadLayerSleepLaw.spin.Goals as goal
 
 pub returns-clause-spun : goal.returns-clause-spun
@@ -7,11 +7,11 @@ returns-clause-spun g c =
     let spun = c.spin.ensures.spun in
     record {
       opening = ap (viewed state_of) spun.opening;
-      site = spun.site;
-      seen = ap (renamed_events slept_edit) spun.seen;
+      machine_id = spun.machine_id;
+      history = ap (renamed_events slept_edit) spun.history;
       room = spun.room;
       acts = spun.acts;
-      fits = λ p fits. (spun.fits p.lower fits.0, subst (λ o. NobodySleeps (states (inner o))) (sym spun.opening) fits.1, fits.2);
+      coupled = λ p coupled. (spun.coupled p.lower coupled.0, subst (λ o. NoSleepers (states (inner o))) (sym spun.opening) coupled.1, coupled.2);
       holders = spun.holders;
     }
 

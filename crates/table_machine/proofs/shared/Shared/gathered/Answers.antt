@@ -6,7 +6,7 @@ use Rattle.table_machine.proofs.shared.Shared.gathered.Goals as goal
 pub load_new_seat-seat-requires : goal.load_new_seat-seat-requires
 load_new_seat-seat-requires g c = (
   has_words _ _ _ _ _ c.self.invariant.0,
-  seat_enters g.K.TableWords.kind g.E.SplitEdit.rules c.self.inside.table.shared.key.cpus c.self.inside.table.shared.key.blocks.value.items
+  seat_enters g.K.TableWords.kind g.E.SplitEdit.protocol c.self.inside.table.shared.key.cpus c.self.inside.table.shared.key.blocks.value.items
       _ (caught_up c.self.inside.table.shared.key.blocks.value.items (cpus_from 0 c.self.inside.table.shared.key.cpus) []) refl,
 )
 

@@ -14,5 +14,5 @@ returns-clause-rests g c =
     let law = g.met.I.CallLayer in
     let x = c.self.inside in
     let is = c.self.invariant in
-    rw (← c.self.view_is) (λ step. ap (λ (d : CpuId). is_in_section (phase d (g.I.CallLayer.acts x.machine))) (sym is.fits.1)
-    ∙ sym (law.busy x.part x.machine is.fits.0 step) ∙ law.idle x.part x.machine is.fits.0 is.nothing)
+    rw (← c.self.view_is) (λ step. ap (λ (d : CpuId). is_in_section (phase d (g.I.CallLayer.acts x.machine))) (sym is.coupled.1)
+    ∙ sym (law.busy x.part x.machine is.coupled.0 step) ∙ law.idle x.part x.machine is.coupled.0 is.nothing)

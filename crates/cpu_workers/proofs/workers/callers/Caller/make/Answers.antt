@@ -9,11 +9,11 @@ invariant_of-self g c =
     let x = c.self.inside in
     let is = c.self.invariant in
     let e = c.call-reply.ensures in
-    let back = subst (λ (d : CpuId). Returned d x.thread c.args.call.now c.call-reply.result (I.seen x.machine) (I.seen c.call-reply.new.m))
-    is.fits.1 e.returned in
-    let one = ap (λ (l : List Entry). length l) back.went.own in
+    let back = subst (λ (d : CpuId). Returned d x.thread c.args.call.now c.call-reply.result (I.history x.machine) (I.history c.call-reply.new.m))
+    is.coupled.1 e.returned in
+    let one = ap (λ (l : List Entry). length l) back.went.local in
     record {
-      fits = (e.fits, e.cpu ∙ is.fits.1);
+      coupled = (e.coupled, e.cpu ∙ is.coupled.1);
       room = is.room;
       nothing = e.under_way;
       rests = e.idle;
@@ -30,15 +30,15 @@ returns-then-self-lt-MOST_CALLS g c =
     let n = c.call-reply.new.m in
     let is = c.self.invariant in
     let e = c.call-reply.ensures in
-    let back = subst (λ (d : CpuId). Returned d x.thread c.args.call.now c.call-reply.result (I.seen x.machine) (I.seen n)) is.fits.1 e.returned in
+    let back = subst (λ (d : CpuId). Returned d x.thread c.args.call.now c.call-reply.result (I.history x.machine) (I.history n)) is.coupled.1 e.returned in
     let its = entry_of x.cpu x.thread (buffer_of c.args.call.now) back.effect in
-    let calls = ap (λ (l : List Entry). reverse l) back.went.own ∙ reverse-append (its ∷ []) (of_cpu x.cpu (I.seen x.machine)) in
+    let calls = ap (λ (l : List Entry). reverse l) back.went.local ∙ reverse-append (its ∷ []) (of_cpu x.cpu (I.history x.machine)) in
     rw (← c.self.view_is) (record {
       effect = back.effect;
       is = back.is;
-      carries = newest_carries (caps_in (I.opening n)) x.cpu (I.seen n) its _
-          (law.lawful n (I.cpu_of c.call-reply.new.part) (law.own_cpu c.call-reply.new.part n e.fits))
-          back.went.own;
+      carries = newest_carries (caps_in (I.opening n)) x.cpu (I.history n) its _
+          (law.lawful n (I.cpu_of c.call-reply.new.part) (law.own_cpu c.call-reply.new.part n e.coupled))
+          back.went.local;
       replies = back.replies;
-      grows = λ i. record { cpu = x.cpu; thread = x.thread; caps = caps_in (e.opening i); site = e.site i; calls = calls i };
+      grows = λ i. record { cpu = x.cpu; thread = x.thread; caps = caps_in (e.opening i); machine_id = e.machine_id i; calls = calls i };
     })

@@ -5,12 +5,12 @@ use Rattle.cpu_workers.proofs.workers.callers.Caller.new.Goals as goal
 
 pub invariant_of-result : goal.invariant_of-result
 invariant_of-result g c = record {
-  fits = (c.part.ensures.fits c.args.machine c.requires.fresh c.requires.buffers, c.part.ensures.cpu);
+  coupled = (c.part.ensures.coupled c.args.machine c.requires.fresh c.requires.buffers, c.part.ensures.cpu);
   room = c.requires.room;
   nothing = c.part.ensures.under_way;
-  rests = ap (λ (own : Buffering). (call_state_of own.call_states c.args.thread).stage) c.part.ensures.own
+  rests = ap (λ (local : Buffering). (call_state_of local.call_states c.args.thread).stage) c.part.ensures.local
       ∙ ap (λ (s : CallState). s.stage) (get_or-replicate THREADS c.args.thread.0 no_call no_call (omega arith));
   opens = c.requires.opens;
-  counted = rw c.requires.seen refl;
+  counted = rw c.requires.history refl;
   few = omega arith;
 }

@@ -8,7 +8,8 @@ pub halted-requires : goal.halted-requires
 halted-requires g c =
     let m = c.self.inside.machine in
     let is = c.self.invariant in
-    let cpu = layered (laws_of g.met.I.CallLayer) m c.self.inside.cpu (record { fits = is.fits; number = is.number; is = is.is; table = λ step. is.tabled }) in
+    let cpu =
+    layered (laws_of g.met.I.CallLayer) m c.self.inside.cpu (record { coupled = is.coupled; number = is.number; is = is.is; table = λ step. is.tabled }) in
     current_within (valid_cpu is.is) (runs_home cpu)
 
 pub returns-clause-is : goal.returns-clause-is
@@ -17,13 +18,13 @@ returns-clause-is g c = λ setup of.
     let m = c.self.inside.machine in
     let p = c.self.inside.cpu in
     let is = c.self.invariant in
-    let cpu = layered (laws_of g.met.I.CallLayer) m p (record { fits = is.fits; number = is.number; is = is.is; table = λ step. is.tabled }) in
+    let cpu = layered (laws_of g.met.I.CallLayer) m p (record { coupled = is.coupled; number = is.number; is = is.is; table = λ step. is.tabled }) in
     let same = halted_same (tabled_cpu cpu is.stepwise) setup
     (table_planned setup (homes_in (I.opening m)) (caps_in (I.opening m)) p.guests.items p.limit
     (subst (λ (w : Working). IsPlanned setup w.plan) (sym c.self.view_is) of)) in
-    subst (λ (w : Working). halted_at setup w.cpu w.private ≡ c.halted.result) c.self.view_is (same ∙ sym c.halted.ensures)
+    subst (λ (w : Working). halted_at setup w.cpu w.cpu_local ≡ c.halted.result) c.self.view_is (same ∙ sym c.halted.ensures)
 
-pub returns-clause-own : goal.returns-clause-own
-returns-clause-own g c = λ used.
+pub returns-clause-local : goal.returns-clause-local
+returns-clause-local g c = λ used.
     let p = c.self.inside.cpu in
-    own_reason (threads_in (g.I.CallLayer.own p.part)) p.guests.items p.trace.items p.limit (sym c.halted.ensures ∙ used)
+    own_reason (threads_in (g.I.CallLayer.local p.part)) p.guests.items p.trace.items p.limit (sym c.halted.ensures ∙ used)

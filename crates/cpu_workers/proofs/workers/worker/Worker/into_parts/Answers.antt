@@ -5,4 +5,4 @@ pub returns-clause-owns : goal.returns-clause-owns
 returns-clause-owns g c =
     let m = c.self.inside.machine in
     let is = c.self.invariant in
-    rw (← c.self.view_is) (subst (λ (d : CpuId). g.I.CallLayer.ActsFor m d) is.number (g.met.I.CallLayer.own_cpu c.self.inside.cpu.part m is.fits))
+    rw (← c.self.view_is) (subst (λ (d : CpuId). g.I.CallLayer.ActsFor m d) is.number (g.met.I.CallLayer.own_cpu c.self.inside.cpu.part m is.coupled))

@@ -10,10 +10,10 @@ returns g c =
     let m = c.self.inside.machine in
     let p = c.self.inside.cpu in
     let is = c.self.invariant in
-    let cpu = layered (laws_of law) m p (record { fits = is.fits; number = is.number; is = is.is; table = λ step. is.tabled }) in
-    let seen = law.seen_is is.stepwise m ∙ ap (λ o. effects_in o (buffer_sections (map event_of (sections_in (I.acts m))))) is.opens in
+    let cpu = layered (laws_of law) m p (record { coupled = is.coupled; number = is.number; is = is.is; table = λ step. is.tabled }) in
+    let history = law.seen_is is.stepwise m ∙ ap (λ o. effects_in o (buffer_sections (map event_of (sections_in (I.acts m))))) is.opens in
     rw (← c.self.view_is) (record {
-      trace = is.is.kept ∙ ap (λ l. reverse (of_cpu p.number l)) seen;
-      legal = law.legal m (I.cpu_of p.part) (law.own_cpu p.part m is.fits);
-      follows = has_followed (tabled_cpu cpu is.stepwise) (I.acts m) (I.site m);
+      trace = is.is.kept ∙ ap (λ l. reverse (of_cpu p.number l)) history;
+      legal = law.legal m (I.cpu_of p.part) (law.own_cpu p.part m is.coupled);
+      follows = has_followed (tabled_cpu cpu is.stepwise) (I.acts m) (I.machine_id m);
     })

@@ -8,5 +8,5 @@ returns g c =
     let acts = g.I.CallLayer.acts c.self.inside.machine in
     let p = c.self.inside.cpu in
     let is = c.self.invariant in
-    rw (← c.self.view_is) (g.met.I.CallLayer.busy p.part c.self.inside.machine is.fits is.stepwise
+    rw (← c.self.view_is) (g.met.I.CallLayer.busy p.part c.self.inside.machine is.coupled is.stepwise
     ∙ (ap (λ (d : CpuId). is_in_section (phase d acts)) is.number ∙ ap is_in_section (sym (phase_renamed name_of p.number acts))))

@@ -1,5 +1,0 @@
-use Rattle.event_log.proofs.GrantWords.{legal_grants}
-use Rattle.event_log.proofs.laws.grants_tell_spots.Goals as goal
-
-pub returns : goal.returns
-returns g c = legal_grants _

@@ -1,5 +1,0 @@
-use Rattle.event_log.proofs.Tickets.{legal_acts}
-use Rattle.event_log.proofs.laws.tickets_tell_spots.Goals as goal
-
-pub returns : goal.returns
-returns g c = legal_acts _
