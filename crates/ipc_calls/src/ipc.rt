@@ -341,7 +341,8 @@ impl<B: OpensBuffers> Owned for Ipc<B> {
     ghost items = { λ m c b acts within. read_under (λ (p : Self). p.lower) (λ p. B.Coupled p m) (λ (p : Self). Self.Coupled p m) (λ p. B.cpu_of p)
         (λ (p : Self). B.cpu_of p.lower) (B.MayHold m)
         (B.MayHold m) (λ p. B.items_with p b) (B.items_at m b)
-        (items_of (contents_of (caps_in (B.opening m)) (B.history m)) b.0) (λ p coupled. coupled.0) (λ p coupled. refl) (λ d inside. inside) (B.items m c b acts within) };
+        (items_of (contents_of (caps_in (B.opening m)) (B.history m)) b.0) (λ p coupled. coupled.0) (λ p coupled. refl)
+        (λ d inside. inside) (B.items m c b acts within) };
 
     ghost closed = { λ m c b acts within. read_under (λ (p : Self). p.lower) (λ p. B.Coupled p m) (λ (p : Self). Self.Coupled p m) (λ p. B.cpu_of p)
         (λ (p : Self). B.cpu_of p.lower) (B.MayHold m)

@@ -76,8 +76,10 @@ impl<G: Guarded> Law for CvLaw<G> {
     ghost LockExists = { λ opening call payload. IsSome (opening (Buffer call.buffer)) };
 
     ghost IsLocal = { λ local call payload.
-        IsSome (slept_for local.waits (lock_caller (cv_rules G.monitor_rules) (abstract_lock_call (abstract_cv_edit G.abstract_call) call.edit payload.message_slot)))
-        ⊎ IsSome (slept_for local.lock.slept (lock_caller (cv_rules G.monitor_rules) (abstract_lock_call (abstract_cv_edit G.abstract_call) call.edit payload.message_slot))) };
+        IsSome (slept_for local.waits (lock_caller (cv_rules G.monitor_rules)
+        (abstract_lock_call (abstract_cv_edit G.abstract_call) call.edit payload.message_slot)))
+        ⊎ IsSome (slept_for local.lock.slept (lock_caller (cv_rules G.monitor_rules)
+        (abstract_lock_call (abstract_cv_edit G.abstract_call) call.edit payload.message_slot))) };
 
     ghost AreValidHomes = { λ homes. length homes ≤ THREADS };
 

@@ -99,7 +99,8 @@ impl<F: Locked> Law for QLockLaw<F> {
 
     ghost Polled = { λ opening ActsFor cpu call payload abstract_answer old new local local' begun. LockPolled F.protocol (lock_kernel F.protocol opening)
         ActsFor cpu
-        call.buffer (abstract_lock_call F.abstract_call call.edit payload.message_slot) (slept_for local.slept (lock_caller F.protocol (abstract_lock_call F.abstract_call call.edit payload.message_slot)))
+        call.buffer (abstract_lock_call F.abstract_call call.edit payload.message_slot)
+        (slept_for local.slept (lock_caller F.protocol (abstract_lock_call F.abstract_call call.edit payload.message_slot)))
         old new local begun (record { local = local'; answer = abstract_answer }) };
 
     ghost IsPrompt = { λ call payload result local local'. result ≡ None
