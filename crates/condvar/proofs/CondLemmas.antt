@@ -50,7 +50,7 @@ pub wake_kept : (waits now : List (Option BufId)) (woke : Bool) (u : Tid) → no
     → now ≡ waits
 wake_kept waits now woke u same abstract_answer = same ∙ ap (λ b. if b then slice_set waits u.0 None else waits) abstract_answer
 
--- what the lock returned, with the parcel beside its result
+-- what the lock returned, with the message slot beside its result
 abbrev pub lock_tells : {B O : Type 0} → (B → MessageSlot → O) → MessageSlot → Option (Outcome (QLockReply (CvReply B)))
     → Option (Outcome (QLockReply (CvReply O)))
 lock_tells abstract_answer message_slot answer =

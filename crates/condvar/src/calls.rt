@@ -26,8 +26,8 @@ pub fn caller_of<G: Guarded>(
     }
 }
 
-/// Returns the side of a wait, which does not depend on the parcel beside it; `Receivers` for a
-/// call that is no wait.
+/// Returns the side of a wait, which does not depend on the message slot beside it; `Receivers` for
+/// a call that is no wait.
 #[inline(always)]
 pub fn side_of<G: Guarded>(
     call: &QLockCall<CvEdit<G::Request>, CvLeave>,

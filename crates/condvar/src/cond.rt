@@ -4,8 +4,8 @@ use crate::calls::{caller_of, side_of};
 use crate::waits::Waits;
 use event_log::{BufId, CpuId, Tid};
 use layer_traits::{
-    BufferCall, CvEdit, CvLaw, CvLeave, CvReply, Guarded, Outcome, OwnThreads, OwnedThreadLayer,
-    Pass, Payload, QLockCall, QLockLaw, QLockReply, ThreadLayer, WaitList,
+    BufferCall, CvEdit, CvLaw, CvLeave, CvReply, Guarded, LockView, Outcome, OwnThreads,
+    OwnedThreadLayer, Pass, Payload, QLockCall, QLockLaw, QLockReply, ThreadLayer,
 };
 
 /// One CPU's part of queuing locks with Mesa conditions (Anderson and Dahlin), over a part `Q` of
@@ -150,33 +150,13 @@ impl<G: Guarded, Q: OwnedThreadLayer<QLockLaw<CvEdit<G>>>> OwnedThreadLayer<CvLa
     ghost queue_with = { λ p d. Q.queue_with p.lower d };
 
     #[inline(always)]
-    fn block_in(m: &Q::Machine, b: BufId) -> Option<&G::Block> {
+    fn block_in(m: &Q::Machine, b: BufId) -> Option<LockView<'_, G::Block>> {
         Q::block_in(m, b)
     }
 
     #[inline(always)]
-    fn block_here(&self, b: BufId) -> Option<&G::Block> {
+    fn block_here(&self, b: BufId) -> Option<LockView<'_, G::Block>> {
         self.lower.block_here(b)
-    }
-
-    #[inline(always)]
-    fn owner_in(m: &Q::Machine, b: BufId) -> Option<Option<Tid>> {
-        Q::owner_in(m, b)
-    }
-
-    #[inline(always)]
-    fn owner_here(&self, b: BufId) -> Option<Option<Tid>> {
-        self.lower.owner_here(b)
-    }
-
-    #[inline(always)]
-    fn wait_list_in(m: &Q::Machine, b: BufId, t: Tid) -> Option<WaitList> {
-        Q::wait_list_in(m, b, t)
-    }
-
-    #[inline(always)]
-    fn wait_list_here(&self, b: BufId, t: Tid) -> Option<WaitList> {
-        self.lower.wait_list_here(b, t)
     }
 
     #[inline(always)]

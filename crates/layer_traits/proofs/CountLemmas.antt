@@ -1,7 +1,7 @@
 -- Threads in lists, by count.
-use Rattle.std.proofs.Common.{◌≡◌, ◌+◌, ◌<◌, true, false, List, [], ◌∷◌, ◌++◌, Option, Some, ap, sym, ◌∙◌, arith, add_assoc, zero-add}
+use Rattle.std.proofs.Common.{◌≡◌, ◌+◌, ◌<◌, true, false, List, [], ◌∷◌, ◌++◌, Option, Some, option_to_list, ap, sym, ◌∙◌, arith, add_assoc, zero-add}
 use Rattle.event_log.{specs.{declared.ids.{CpuId.CpuId, Tid.Tid}, History.same_cpu}, proofs.Same.{same_cpu_self, same_cpu_true}}
-use Rattle.{thread_blocks.{specs.Queues.{same_tid, is_in, first, rest}, proofs.Members.same_tid_self}, layer_traits.specs.Threads.Passes.as_list}
+use Rattle.{thread_blocks.{specs.Queues.{same_tid, is_in, first, rest}, proofs.Members.same_tid_self}, layer_traits.specs.Threads.RunQueue.joins}
 use Rattle.layer_traits.specs.Threads.Places.{is_cpu, is_thread, one_if, count_in}
 
 pub same_tid_sym : (t u : Tid) → same_tid t u ≡ same_tid u t
@@ -34,12 +34,16 @@ count_other t u other = ap one_if (same_tid_sym t u ∙ other)
 pub count_behind : (t u : Tid) (q : List Tid) → same_tid u t ≡ false → count_in t (q ++ u ∷ []) ≡ count_in t q
 count_behind t u q other = omega (arith, count_other t u other, count_append t q (u ∷ []))
 
-pub count_as_list : (t : Tid) (o : Option Tid) → count_in t (as_list o) ≡ one_if (is_thread t o)
+pub count_as_list : (t : Tid) (o : Option Tid) → count_in t (option_to_list o) ≡ one_if (is_thread t o)
 count_as_list t o = grind (arith, same_tid_sym)
 
 -- the head and the rest are the whole
 pub count_front : (t : Tid) (q : List Tid) → one_if (is_thread t (first q)) + count_in t (rest q) ≡ count_in t q
 count_front t q = grind (arith, same_tid_sym)
+
+-- what joins the run queue is counted in it
+pub count_joins : (t : Tid) (threads ready : List Tid) → count_in t (joins threads ready) ≡ count_in t ready + count_in t threads
+count_joins t threads ready = count_append t ready threads
 
 -- a thread in a list is counted, and the converse
 pub in_counted : (t : Tid) (q : List Tid) → is_in t q ≡ true → 0 < count_in t q

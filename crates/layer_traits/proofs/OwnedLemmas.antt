@@ -1,6 +1,8 @@
 -- What a lower layer reports of its blocks, a layer reports of what it makes of them.
-use Rattle.std.proofs.{Common.{◌≡◌, Option, Some, None, option_map, refl, sym, ◌∙◌, subst, arith}, lemmas.Option.same_Some}
-use Rattle.{event_log.specs.declared.ids.CpuId.CpuId, layer_traits.specs.Views.{Owned.{IsHeld, IsObserved}, Observed.IsObservedAs}}
+use Rattle.std.proofs.{Common.{◌≡◌, Bool, List, Option, Some, None, option_map, refl, ap, sym, ◌∙◌, subst, arith}, lemmas.Option.same_Some}
+use Rattle.{event_log.specs.{declared.ids.{CpuId.CpuId, Tid.Tid}, Messages.Message}, layer_traits.specs.declared.moves.WaitList.WaitList}
+use Rattle.layer_traits.specs.{declared.moves.WaitList.TheVariants.{Sleepers, Receivers, Senders}, Views.Owned.{BufferShown, IsHeld, IsObserved, lists_shown}}
+use Rattle.layer_traits.specs.Views.{Owned.shows, Observed.IsObservedAs}
 
 -- what is true under one name is true under another
 pub same_shown : {P A : Type 0} (Coupled : P → Type 0) (cpu_of : P → CpuId) (IsInside : CpuId → Type 0) (here : P → Option A) (home truth other : Option A)
@@ -110,3 +112,58 @@ pub read_on : {P Q A : Type 0} (parts : PartsOn P Q) (tells : P → Option A) (h
     → IsObservedAs parts.FitsQ (λ q. parts.cpu_below (parts.below q)) parts.MayHold (λ q. tells (parts.below q)) home x
 read_on parts tells home x shown =
     observed_as parts.FitsQ _ parts.MayHold (λ q. tells (parts.below q)) home (Some x) x refl (shown_on parts tells home (Some x) shown)
+
+-- what is reported of a view is true of the view
+seen_as : {P A B : Type 0} (view : A → B) (Coupled : P → Type 0) (cpu_of : P → CpuId) (IsInside : CpuId → Type 0) (here : P → Option A) (home : Option A)
+    (truth : A) → IsObservedAs Coupled cpu_of IsInside here home truth
+    → IsObservedAs Coupled cpu_of IsInside (λ p. option_map view (here p)) (option_map view home) (view truth)
+seen_as {P} {A} {B} view Coupled cpu_of IsInside here home truth abstract_answer = record {
+  by_machine = λ y is. viewed home y abstract_answer.by_machine is;
+  by_part = λ p y coupled is. viewed (here p) y (λ x at. abstract_answer.by_part p x coupled at) is;
+  somewhere = λ none. held (abstract_answer.somewhere (viewed_none view home none));
+}
+  where
+    viewed : (o : Option A) (y : B) → ((x : A) → o ≡ Some x → x ≡ truth) → option_map view o ≡ Some y → y ≡ view truth
+    viewed None y same is = absurd cc
+    viewed (Some x) y same is = same_Some y (view x) (sym is) ∙ ap view (same x refl)
+
+    held : IsHeld Coupled cpu_of IsInside here → IsHeld Coupled cpu_of IsInside (λ p. option_map view (here p))
+    held at = record {
+      cpu = at.cpu;
+      known = at.known;
+      inside = at.inside;
+      has = λ p same coupled none. at.has p same coupled (viewed_none view (here p) none);
+    }
+
+-- what buffers show is the same if each part of it is
+pub same_buffer : {items others : List Message} {closed shut : Bool} {owner other : Option Tid} {lists queues : WaitList → List Tid}
+    → items ≡ others → closed ≡ shut → owner ≡ other → ((line : WaitList) → lists line ≡ queues line)
+    → shows items closed owner lists ≡ shows others shut other queues
+same_buffer items closed owner lists = λ i. shows (items i) (closed i) (owner i) (λ line. lists line i)
+
+-- the waiting lists that a buffer shows are these
+lists_are : (items : List Message) (closed : Bool) (owner : Option Tid) (lists : WaitList → List Tid) → lists_shown (shows items closed owner lists) ≡ lists
+lists_are items closed owner lists = λ i line. each line i
+  where
+    each : (line : WaitList) → lists_shown (shows items closed owner lists) line ≡ lists line
+    each Sleepers = refl
+    each Receivers = refl
+    each Senders = refl
+
+-- what is reported of a buffer's waiting lists is true of them
+pub lists_as : {P : Type 0} (Coupled : P → Type 0) (cpu_of : P → CpuId) (IsInside : CpuId → Type 0) (here : P → Option BufferShown)
+    (home : Option BufferShown) (items : List Message) (closed : Bool) (owner : Option Tid) (lists : WaitList → List Tid)
+    → IsObservedAs Coupled cpu_of IsInside here home (shows items closed owner lists)
+    → IsObservedAs Coupled cpu_of IsInside (λ p. option_map lists_shown (here p)) (option_map lists_shown home) lists
+lists_as Coupled cpu_of IsInside here home items closed owner lists abstract_answer =
+    subst (IsObservedAs Coupled cpu_of IsInside (λ p. option_map lists_shown (here p)) (option_map lists_shown home)) (lists_are items closed owner lists)
+    (seen_as lists_shown Coupled cpu_of IsInside here home (shows items closed owner lists) abstract_answer)
+
+-- parts over lower parts report a view of what those report
+pub seen_on : {P Q A B : Type 0} (parts : PartsOn P Q) (view : A → B) (tells : P → Option A) (home : Option A) (truth : A)
+    → IsObservedAs parts.FitsP parts.cpu_below parts.MayHold tells home truth
+    → IsObservedAs parts.FitsQ (λ q. parts.cpu_below (parts.below q)) parts.MayHold (λ q. option_map view (tells (parts.below q))) (option_map view home)
+    (view truth)
+seen_on parts view tells home truth abstract_answer = seen_as view parts.FitsQ _ parts.MayHold (λ q. tells (parts.below q)) home truth
+    (read_under parts.below parts.FitsP parts.FitsQ parts.cpu_below (λ q. parts.cpu_below (parts.below q)) parts.MayHold parts.MayHold
+    tells home truth parts.coupled (λ q fit. refl) (λ c held. held) abstract_answer)

@@ -1,16 +1,16 @@
 -- Places under moves: what a move may do to a place, and which threads are in a pending queue.
 -- Moves of others do not change a CPU's private state, and each change of that state keeps its
 -- agreement with the places.
-use Rattle.std.proofs.Common.{◌≡◌, ◌≢◌, ℕ, zero, suc, ◌+◌, ◌<◌, Bool, true, false, ◌&&◌, List, [], ◌∷◌, ◌++◌, Option, Some, None, MatchOption, IsSome}
-use Rattle.std.proofs.{Common.{if◌then◌else◌, refl, ap, sym, ◌∙◌, arith, zero-add, slice_get}, lemmas.Bool.and_parts}
+use Rattle.std.proofs.Common.{◌≡◌, ◌≢◌, ℕ, zero, suc, ◌+◌, ◌<◌, Bool, true, false, ◌&&◌, List, [], ◌∷◌, ◌++◌, Option, Some, None, option_to_list, MatchOption}
+use Rattle.std.proofs.{Common.{IsSome, if◌then◌else◌, refl, ap, sym, ◌∙◌, arith, zero-add, slice_get}, lemmas.Bool.and_parts}
 use Rattle.event_log.{specs.{declared.ids.{CpuId.CpuId, LockId.LockId, Tid.Tid}, History.{same_cpu, AreOthers}}, proofs.Same.{same_cpu_self, same_cpu_true}}
 use Rattle.{thread_blocks.{specs.Queues.{same_tid, is_in}, proofs.Members.same_tid_true}, layer_traits.specs.declared.moves.WaitList.WaitList}
-use Rattle.layer_traits.specs.Threads.{Passes.{as_list, or_else, switched, took_pending, passed_on, finished, own_slept, own_woken}, Places.{home_of, is_cpu}}
-use Rattle.layer_traits.specs.Threads.Places.{is_thread, WaitChannel, At, Where, Home, Hand, IsPending, Asleep, Move, Pushed, Took, Moved, Still, Step}
-use Rattle.layer_traits.specs.Threads.Places.{step_with, cpu_of_step, where_woken, where_taken, where_slept, where_after, where_is, is_asleep, is_home, is_hand}
-use Rattle.layer_traits.specs.Threads.Places.{is_pend, pending_after, pending_by, MayMove, AreMoves, Threads, one_if, count_in, copies, is_here, Stands, homed}
-use Rattle.layer_traits.{specs.Threads.Places.at_boot, proofs.CountLemmas.{same_tid_sym, same_cpu_sym, is_cpu_true, is_cpu_of, is_cpu_other, is_thread_self}}
-use Rattle.layer_traits.proofs.CountLemmas.{count_append, count_as_list, count_front, in_counted, not_counted}
+use Rattle.layer_traits.specs.Threads.{Passes.{or_else, switched, took_pending, passed_on, finished, own_slept, own_woken}, Places.{home_of, is_cpu, is_thread}}
+use Rattle.layer_traits.specs.Threads.Places.{WaitChannel, At, Where, Home, Hand, IsPending, Asleep, Move, Pushed, Took, Moved, Still, Step, step_with}
+use Rattle.layer_traits.specs.Threads.Places.{cpu_of_step, where_woken, where_taken, where_slept, where_after, where_is, is_asleep, is_home, is_hand, is_pend}
+use Rattle.layer_traits.specs.Threads.Places.{pending_after, pending_by, MayMove, AreMoves, Threads, one_if, count_in, copies, is_here, Stands, homed, at_boot}
+use Rattle.layer_traits.{specs.Threads.RunQueue.joins, proofs.CountLemmas.{same_tid_sym, same_cpu_sym, is_cpu_true, is_cpu_of, is_cpu_other, is_thread_self}}
+use Rattle.layer_traits.proofs.CountLemmas.{count_append, count_as_list, count_joins, count_front, in_counted, not_counted}
 
 -- What a move may do to a place.
 
@@ -73,7 +73,7 @@ module _ (homes : List CpuId) (c : CpuId) (local : Threads) where
       → copies (own_woken homes c woke local) t
       ≡ one_if (is_cpu c (home_of homes t) && is_home (if is_thread t woke then where_woken c (home_of homes t) else w))
   woken_copies t w None away before = before
-  woken_copies t w (Some u) away before = grind (arith, count_append t local.ready (u ∷ []), same_tid_true u t)
+  woken_copies t w (Some u) away before = grind (arith, count_joins t (u ∷ []) local.ready, same_tid_true u t)
 
   -- the hand has the woken thread, if its home is another CPU
   moved_hand : (lock : LockId) (caller t : Tid) (w : Where) (slept : Option WaitList) (woke : Option Tid) → local.hand ≡ None → is_hand c w ≡ false
@@ -96,14 +96,14 @@ module _ (homes : List CpuId) where
       → P (where_is homes past t) (where_after homes c (Moved lock caller slept woke) t (where_is homes past t))
   view_moved past c lock caller slept woke t P may stays wakes sleeps = by_woke woke may.1 (is_thread t woke) refl
     where
-      joins : (s : Option WaitList) → home_of homes t ≡ Some c → P Home (where_slept lock s Home)
-      joins None home = stays Home
-      joins (Some line) home = sleeps home (At lock line)
+      falls_asleep : (s : Option WaitList) → home_of homes t ≡ Some c → P Home (where_slept lock s Home)
+      falls_asleep None home = stays Home
+      falls_asleep (Some line) home = sleeps home (At lock line)
 
       by_caller : (b : Bool) → same_tid caller t ≡ b → P (where_is homes past t)
           (if b then where_slept lock slept (where_is homes past t) else where_is homes past t)
       by_caller false other = stays (where_is homes past t)
-      by_caller true same = let one = same_tid_true caller t same in rw (rw one at may.0.at_home) (joins slept (rw one at may.0.home))
+      by_caller true same = let one = same_tid_true caller t same in rw (rw one at may.0.at_home) (falls_asleep slept (rw one at may.0.home))
 
       by_woke : (o : Option Tid) → MatchOption o (Unit {0}) (λ u. is_asleep (where_is homes past u) ≡ true) → (b : Bool) → is_thread t o ≡ b
           → P (where_is homes past t) (if b then where_woken c (home_of homes t) else
@@ -228,8 +228,8 @@ module _ (homes : List CpuId) where
     pub pending_at : (t : Tid) → is_in t (pending_by moves c) ≡ true → (home_of homes t ≡ Some c) × (is_in t local.ready ≡ false)
     pending_at t is = grind (arith, pend_where, pend_home, not_counted, away_from)
 
-    pub current_new : (t : Tid) → local.current ≡ Some t → is_in t (local.ready ++ pending_by moves c) ≡ false
-    current_new t is = grind (arith, current_at, pend_count, not_counted, count_append)
+    pub current_new : (t : Tid) → local.current ≡ Some t → is_in t (joins (pending_by moves c) local.ready) ≡ false
+    current_new t is = grind (arith, current_at, pend_count, not_counted, count_joins)
 
     pub stands_taken : Stands homes c (step_with c (Took c) ∷ moves) (took_pending (pending_by moves c) local)
     stands_taken = record {
@@ -238,7 +238,7 @@ module _ (homes : List CpuId) where
     }
       where
         copied : (t : Tid) → copies (took_pending (pending_by moves c) local) t ≡ one_if (is_here homes c moves t) + one_if (is_pend c (where_is homes moves t))
-        copied t = grind (arith, count_append, count_as_list, pend_count)
+        copied t = grind (arith, count_joins, count_as_list, pend_count)
 
     pub stands_pushed : (d : CpuId) (u : Tid) → local.hand ≡ Some u → Stands homes c (step_with c (Pushed d u) ∷ moves) (passed_on local)
     stands_pushed d u held = record {
@@ -254,7 +254,7 @@ module _ (homes : List CpuId) where
 
     pub stands_finished : Stands homes c moves (finished local)
     stands_finished = record {
-      places = λ t. omega (arith, count_append t local.ended (as_list local.current), count_as_list t local.current, stands.places t);
+      places = λ t. omega (arith, count_append t local.ended (option_to_list local.current), count_as_list t local.current, stands.places t);
       hand = stands.hand;
     }
 

@@ -16,6 +16,12 @@ pub record StandsOn {M N A B Q R : Type 0} (low : Table M A Q) (high : Table N B
   pub edits : (m : M) (block : A) → view (low.edited m block) ≡ high.edited (name m) (view block)
   pub answers : (m : M) (block : A) → abstract_answer (low.answer m block) ≡ high.answer (name m) (view block)
 
+-- the same of its parts
+pub stands_of_parts : {M N A B Q R : Type 0} {low : Table M A Q} {high : Table N B R} (name : M → N) (view : A → B) (answer : Q → R)
+    → ((m : M) (block : A) → view (low.edited m block) ≡ high.edited (name m) (view block))
+    → ((m : M) (block : A) → answer (low.answer m block) ≡ high.answer (name m) (view block)) → StandsOn low high
+stands_of_parts name view answer edits answers = record { name = name; view = view; abstract_answer = answer; edits = edits; answers = answers }
+
 module _ {M N A B Q R : Type 0} (low : Table M A Q) (high : Table N B R) (stands : StandsOn low high) (opening : LockId → Option A) where
   open stands use {name, view, abstract_answer, edits, answers}
 

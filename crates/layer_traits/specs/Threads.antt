@@ -2,5 +2,6 @@
 pub mod Places
 pub mod MoveRules
 pub mod Passes
+pub mod RunQueue
 pub mod OnePlace
 pub mod ListsAgree

@@ -12,7 +12,6 @@ use crate::buffer_edits::{BareBufferEdit, BareBufferReply, BufferEdit, BufferRep
 use crate::conditions::{Guarded, WholeGuarded};
 use crate::locked::Side;
 use crate::payloads::MessageSlot;
-use arrayvec::ArrayVec;
 use event_log::{CAPACITY, Kind, Msg, Ring, THREADS, Tid};
 use std::marker::Model;
 use thread_blocks::ThreadQueue;
@@ -76,10 +75,10 @@ impl BufferBlock {
     }
 
     /// Returns the items, front first.
-    pub fn items(&self) -> ArrayVec<Msg, CAPACITY>
-        ensures { result.items ≡ self.now.items }
+    pub fn items(&self) -> &Ring<Msg>
+        ensures { result.now ≡ self.now.items }
     {
-        self.items.items()
+        &self.items
     }
 
     /// Returns whether the buffer is closed.
@@ -129,8 +128,8 @@ impl BufferBlock {
         }
     }
 
-    /// Puts the message of `message_slot` for `t`, if `t` is the first sender and there is room. A closed
-    /// buffer takes no message, and the result says so.
+    /// Puts the message of `message_slot` for `t`, if `t` is the first sender and there is room. A
+    /// closed buffer takes no message, and the result says so.
     fn put(&mut self, t: Tid, message_slot: &mut MessageSlot) -> BareBufferReply
         ensures block { self.new ≡ buffer_edited (TryPut t message_slot.old.message) self.old }
         ensures answer { abstract_buffer_answer result message_slot.new
@@ -153,8 +152,8 @@ impl BufferBlock {
         BareBufferReply::Done(Kind::Send)
     }
 
-    /// Takes the first item for `t` into `message_slot`, if `t` is the first receiver and there is an
-    /// item. If the buffer is closed and empty, the result says so.
+    /// Takes the first item for `t` into `message_slot`, if `t` is the first receiver and there is
+    /// an item. If the buffer is closed and empty, the result says so.
     fn take(&mut self, t: Tid, message_slot: &mut MessageSlot) -> BareBufferReply
         ensures block { self.new ≡ buffer_edited (TryTake t) self.old }
         ensures answer { abstract_buffer_answer result message_slot.new
@@ -182,8 +181,8 @@ impl BufferBlock {
         }
     }
 
-    /// Closes the buffer, which may be closed already, and stores in `message_slot` how many effects and
-    /// how many closes it had before.
+    /// Closes the buffer, which may be closed already, and stores in `message_slot` how many
+    /// effects and how many closes it had before.
     fn shut(&mut self, t: Tid, message_slot: &mut MessageSlot) -> BareBufferReply
         ensures block { self.new ≡ buffer_edited (Shut t) self.old }
         ensures answer { abstract_buffer_answer result message_slot.new

@@ -57,8 +57,8 @@ pub enum BareBufferReply {
     Entered,
     /// [`BufferReply::NotYet`].
     NotYet,
-    /// [`BufferReply::Done`], with the payload's message; its first number is how many effects there
-    /// were.
+    /// [`BufferReply::Done`], with the payload's message; its first number is how many effects
+    /// there were.
     Done(Kind),
     /// [`BufferReply::WasShut`], with both numbers in the payload.
     WasShut,

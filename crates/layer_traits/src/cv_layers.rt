@@ -6,11 +6,10 @@ ghost use Rattle.std.specs.Prelude.{◌≡◌, ◌⊎◌, ◌≤◌, [], IsSome,
 ghost use Rattle.layer_traits.specs.Layers.{CvLaw.{Waiting, waiting_at_start, CvPolled, MayCallCond, MustStay, cv_plan, cv_pass_plan}, Conditions.cv_rules};
 ghost use Rattle.layer_traits.specs.Layers.{QLockLaw.{LockAgrees, lock_kernel, slept_for, is_handed}, QLocking.{AreAtRest, lock_after, lock_caller}};
 ghost use Rattle.layer_traits.specs.Layers.{QLocking.{lock_moves, lock_rules}, Queues.{QueueAllowed, buffer_sections, cpu_of_queue_event, event_of, moves_in}};
-ghost use Rattle.layer_traits.specs.{Layers.{Scheds.SchedPolled, SleepLaw.done_if}, Views.Owned.wait_list_under, Blocks.Payloads.abstract_cv_edit};
-ghost use Rattle.layer_traits.specs.Blocks.{Payloads.{abstract_cv_answer, abstract_lock_call, abstract_lock_answer, abstract_outcome}, QueueBlocks.StartsWell};
-ghost use Rattle.layer_traits.specs.{Blocks.{QueueBlocks.{homes_in, inner}, QueueRules.{AreProper, queue_rules}}, Threads.Places.{AreMoves, pending_by}};
-ghost use Rattle.{layer_traits.specs.Polling.Plans.table_of, event_log.specs.declared.ids.{LockId.TheVariants.{Buffer, Pending}, TheConstants.THREADS}};
-ghost use Rattle.event_log.specs.Sections.{sections_in};
+ghost use Rattle.layer_traits.specs.{Layers.{Scheds.SchedPolled, SleepLaw.done_if}, Blocks.Payloads.{abstract_cv_edit, abstract_cv_answer, abstract_lock_call}};
+ghost use Rattle.layer_traits.specs.Blocks.{Payloads.{abstract_lock_answer, abstract_outcome}, QueueBlocks.{StartsWell, homes_in, inner}, QueueRules.AreProper};
+ghost use Rattle.layer_traits.specs.{Blocks.QueueRules.queue_rules, Threads.Places.{AreMoves, pending_by}, Polling.Plans.table_of};
+ghost use Rattle.event_log.specs.{declared.ids.{LockId.TheVariants.{Buffer, Pending}, TheConstants.THREADS}, Sections.sections_in};
 ghost use Rattle.layer_traits.specs.declared.scheds.SchedCall.TheVariants as sched;
 
 use crate::conditions::{CvEdit, CvLeave, CvReply, Guarded};
@@ -141,15 +140,11 @@ impl<G: Guarded> SleeperLaw for CvLaw<G> {
 
     type Above = G::Block;
 
-    ghost above = { λ state. state.above };
+    ghost lock = { λ state. state };
 
     ghost block_after = { λ opening history b. lock_after (cv_rules G.monitor_rules) (inner opening) (Buffer b) (buffer_sections history) };
 
     ghost pending_after = { λ opening history d. pending_by (moves_in (lock_kernel (cv_rules G.monitor_rules) opening) history) d };
-
-    ghost owner_of = { λ state. state.owner };
-
-    ghost wait_list_of = { wait_list_under };
 }
 
 /// One CPU's part of a layer of queuing locks with conditions. A poll does at most one atomic

@@ -4,12 +4,12 @@
 //! CPU's part has it. If a poll is one action, that CPU is in a section. No call is given an
 //! allocator, and none waits.
 
-ghost use Rattle.std.specs.Prelude.{◌≡◌, true, List, Option, Some, IsSome, option_and_then, option_map};
+ghost use Rattle.std.specs.Prelude.{◌≡◌, true, List, Option, Some, IsSome, option_map};
 ghost use Rattle.event_log.specs.{declared.ids.{BufId.BufId, CpuId.CpuId, LockId.{LockId, TheVariants.{Buffer, Pending}}, Tid.Tid}, Actions.phase};
-ghost use Rattle.{layer_traits.specs.{Views.Owned.IsObserved, Polling.Plans.is_in_section, declared.moves.WaitList.WaitList}, thread_blocks.specs.Queues.is_in};
+ghost use Rattle.{layer_traits.specs.{Layers.QLocking.LockState, Views.Owned.IsObserved, Polling.Plans.is_in_section}, thread_blocks.specs.Queues.is_in};
 
 use crate::layers::{Law, Layer};
-use crate::moves::WaitList;
+use crate::lock_views::LockView;
 use crate::threads::{ThreadLaw, ThreadLayer};
 use event_log::{BufId, CpuId, Tid};
 
@@ -41,20 +41,15 @@ pub trait SleeperLaw: ThreadLaw {
     /// The part of the block that the layer above edits.
     type Above;
 
-    /// The view of the part that the layer above edits.
-    ghost above: { Self.Seen → Self.Above };
+    /// The block as a lock with its owner and its waiting lists; without an owner if no thread has
+    /// one, or the layer has none.
+    ghost lock: { Self.Seen → LockState Self.Above };
 
     /// The block of a buffer, as its sections left it.
     ghost block_after: { (LockId → Option Self.Block) → List Self.Event → BufId → Option Self.Seen };
 
     /// The pending queue of a CPU, as the moves left it, front first.
     ghost pending_after: { (LockId → Option Self.Block) → List Self.Event → CpuId → List Tid };
-
-    /// The owner of the lock in a buffer's block; none if no thread owns it, or there is no lock.
-    ghost owner_of: { Self.Seen → Option Tid };
-
-    /// The waiting list of a buffer's block that has a thread.
-    ghost wait_list_of: { Tid → Self.Seen → Option WaitList };
 }
 
 /// A layer whose machine reports the blocks and pending queues that it has, and whose parts report
@@ -129,45 +124,17 @@ pub trait OwnedThreadLayer<L: SleeperLaw>: ThreadLayer<L> {
     /// The pending queue of a CPU, if the part's CPU holds it.
     ghost queue_with: { Self → CpuId → Option (List Tid) };
 
-    /// Returns the part of the block of the buffer `b` that the layer above edits; `None` if a CPU
-    /// holds the block.
+    /// Returns what the block of the buffer `b` shows; `None` if a CPU holds the block.
     ///
     /// Requires: the machine's holder acts for some CPU, and the buffer exists.
-    fn block_in(m: &Self::Machine, b: BufId) -> Option<&L::Above>
+    fn block_in(m: &Self::Machine, b: BufId) -> Option<LockView<'_, L::Above>>
         requires acts { (c : CpuId) × Self.ActsFor m.now c }
         requires buffer { IsSome (Self.opening m.now (Buffer b)) }
-        ensures { option_map (λ block. block.now) result ≡ option_map L.above (block_at m.now b) };
+        ensures { result ≡ option_map L.lock (block_at m.now b) };
 
     /// Returns the same of a block that this CPU holds; `None` if it does not hold the block.
-    fn block_here(&self, b: BufId) -> Option<&L::Above>
-        ensures { option_map (λ block. block.now) result
-            ≡ option_map L.above (block_with self.now b) };
-
-    /// Returns the owner of the lock in the block of the buffer `b`; `None` if a CPU holds the
-    /// block.
-    ///
-    /// Requires: the machine's holder acts for some CPU, and the buffer exists.
-    fn owner_in(m: &Self::Machine, b: BufId) -> Option<Option<Tid>>
-        requires acts { (c : CpuId) × Self.ActsFor m.now c }
-        requires buffer { IsSome (Self.opening m.now (Buffer b)) }
-        ensures { result ≡ option_map L.owner_of (block_at m.now b) };
-
-    /// Returns the same of a block that this CPU holds; `None` if it does not hold the block.
-    fn owner_here(&self, b: BufId) -> Option<Option<Tid>>
-        ensures { result ≡ option_map L.owner_of (block_with self.now b) };
-
-    /// Returns the waiting list of the buffer `b` that has `t`; `None` if none has it or a CPU
-    /// holds the block.
-    ///
-    /// Requires: the machine's holder acts for some CPU, and the buffer exists.
-    fn wait_list_in(m: &Self::Machine, b: BufId, t: Tid) -> Option<WaitList>
-        requires acts { (c : CpuId) × Self.ActsFor m.now c }
-        requires buffer { IsSome (Self.opening m.now (Buffer b)) }
-        ensures { result ≡ option_and_then (L.wait_list_of t) (block_at m.now b) };
-
-    /// Returns the same of a block that this CPU holds; `None` if it does not hold the block.
-    fn wait_list_here(&self, b: BufId, t: Tid) -> Option<WaitList>
-        ensures { result ≡ option_and_then (L.wait_list_of t) (block_with self.now b) };
+    fn block_here(&self, b: BufId) -> Option<LockView<'_, L::Above>>
+        ensures { result ≡ option_map L.lock (block_with self.now b) };
 
     /// Returns whether `t` is in the pending queue of `d`; `None` if a CPU holds that queue.
     ///

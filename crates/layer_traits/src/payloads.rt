@@ -49,7 +49,7 @@ pub struct MessageSlot {
 }
 
 impl MessageSlot {
-    /// Returns a parcel with no message, and zeros.
+    /// Returns a message slot with no message, and zeros.
     pub fn new() -> MessageSlot
         ensures { result ≡ record { message = no_message; first = 0; second = 0 } }
     {

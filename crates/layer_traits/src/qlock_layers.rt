@@ -6,9 +6,9 @@ ghost use Rattle.std.specs.Prelude.{◌≡◌, ◌≤◌, [], IsSome, None, leng
 ghost use Rattle.layer_traits.specs.Layers.{QLocking.{LockState, AreAtRest, lock_after, lock_caller, lock_moves, lock_rules}, QLockLaw.Locking};
 ghost use Rattle.layer_traits.specs.Layers.QLockLaw.{locking_at_start, LockAgrees, LockPolled, MayCallLock, MustWait, lock_kernel, lock_plan, slept_for};
 ghost use Rattle.layer_traits.specs.Layers.{QLockLaw.{is_handed, lock_pass_plan}, Queues.{QueueAllowed, buffer_sections, cpu_of_queue_event, event_of}};
-ghost use Rattle.layer_traits.specs.{Layers.{Queues.moves_in, Scheds.SchedPolled, SleepLaw.done_if}, Views.Owned.wait_list_under};
-ghost use Rattle.layer_traits.specs.Blocks.{Payloads.{abstract_lock_call, abstract_lock_answer, abstract_outcome}, QueueBlocks.{StartsWell, homes_in, inner}};
-ghost use Rattle.layer_traits.specs.{Blocks.QueueRules.{AreProper, queue_rules}, Threads.Places.{AreMoves, pending_by}, Polling.Plans.table_of};
+ghost use Rattle.layer_traits.specs.{Layers.{Queues.moves_in, Scheds.SchedPolled, SleepLaw.done_if}, Blocks.Payloads.abstract_lock_call};
+ghost use Rattle.layer_traits.specs.Blocks.{Payloads.{abstract_lock_answer, abstract_outcome}, QueueBlocks.{StartsWell, homes_in, inner}, QueueRules.AreProper};
+ghost use Rattle.layer_traits.specs.{Blocks.QueueRules.queue_rules, Threads.Places.{AreMoves, pending_by}, Polling.Plans.table_of};
 ghost use Rattle.event_log.specs.{declared.ids.{LockId.TheVariants.{Buffer, Pending}, TheConstants.THREADS}, Sections.sections_in};
 ghost use Rattle.layer_traits.specs.declared.scheds.SchedCall.TheVariants as sched;
 
@@ -144,15 +144,11 @@ impl<F: Locked> SleeperLaw for QLockLaw<F> {
 
     type Above = F::Block;
 
-    ghost above = { λ state. state.above };
+    ghost lock = { λ state. state };
 
     ghost block_after = { λ opening history b. lock_after F.protocol (inner opening) (Buffer b) (buffer_sections history) };
 
     ghost pending_after = { λ opening history d. pending_by (moves_in (lock_kernel F.protocol opening) history) d };
-
-    ghost owner_of = { λ state. state.owner };
-
-    ghost wait_list_of = { wait_list_under };
 }
 
 /// One CPU's part of a layer of queuing locks. A poll does at most one atomic action of the current

@@ -6,7 +6,7 @@ ghost use Rattle.std.specs.Prelude.{◌≡◌, ◌≤◌, [], IsSome, None, leng
 ghost use Rattle.layer_traits.specs.Layers.{Sleeping.{SleepState, NoSleepers, sleep_edited, sleep_moves, sleep_rules}, Queues.{QueueAllowed, buffer_sections}};
 ghost use Rattle.layer_traits.specs.Layers.{Queues.{cpu_of_queue_event, event_of, moves_in}, Scheds.SchedPolled, SleepLaw.{Sleeping, MayCall, MaySleep}};
 ghost use Rattle.layer_traits.specs.{Layers.SleepLaw.{MustSend, SleepPolled, sleep_kernel, sleep_plan, done_if, pass_plan}, Threads.Places.at_boot};
-ghost use Rattle.layer_traits.specs.{Threads.{Places.{pending_by, AreMoves}, ListsAgree.SleepAgrees}, Views.Owned.wait_list_with};
+ghost use Rattle.layer_traits.specs.{Threads.{Places.{pending_by, AreMoves}, ListsAgree.SleepAgrees}, Views.Owned.unowned_lock};
 ghost use Rattle.layer_traits.specs.Blocks.{Payloads.abstract_outcome, QueueBlocks.{StartsWell, homes_in, inner}, QueueRules.{AreProper, queue_rules}};
 ghost use Rattle.{layer_traits.specs.Polling.{Plans.table_of, Polls.until_answered}, event_log.specs.declared.ids.LockId.TheVariants.{Buffer, Pending}};
 ghost use Rattle.event_log.specs.{declared.ids.TheConstants.THREADS, Sections.{block_after, sections_in}};
@@ -153,15 +153,11 @@ impl<E: Sleeps> SleeperLaw for SleepLaw<E> {
 
     type Above = E::Block;
 
-    ghost above = { λ state. state.above };
+    ghost lock = { unowned_lock };
 
     ghost block_after = { λ opening history b. block_after (sleep_edited E.protocol) (inner opening) (Buffer b) (buffer_sections history) };
 
     ghost pending_after = { λ opening history d. pending_by (moves_in (sleep_kernel E.protocol opening) history) d };
-
-    ghost owner_of = { λ state. None };
-
-    ghost wait_list_of = { wait_list_with };
 }
 
 /// One CPU's part of a layer whose sections put threads to sleep and wake them. To the layers above

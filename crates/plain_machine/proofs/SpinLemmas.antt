@@ -55,7 +55,7 @@ module _ {E B O K : Type 0} (Coupling : ℕ → ℕ → K → Type 0) (protocol 
       (reads ∙ ap (λ n. n % 2 ^ 64) (sym (frees_stay cpu lock ticket read log lock looks))) misses
       (spun_sound log waiting reads misses sound looks)
 
-  -- if the words say that the spot is not yet served, the polls fail
+  -- if the words say that the ticket index is not yet served, the polls fail
   pub misses_by : (log : List (Event (Mark E))) → IsSound Coupling protocol opening log cells → IsSome (opening lock) → lock_phase cpu log ≡ Waiting lock ticket
       → (served : Bool) → served ≡ false
       → IfSome (cell_at cells lock)

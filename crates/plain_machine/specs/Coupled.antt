@@ -1,4 +1,4 @@
--- The words of a lock after so many spots (ticket indices) were taken, and after so many releases.
+-- The words of a lock after so many ticket indices were taken, and after so many releases.
 use Rattle.std.specs.Prelude.{◌≡◌, ℕ, ◌%◌, ◌^◌, ◌<◌, length, slice_index}
 use Rattle.event_log.specs.{declared.ids.TheConstants.CPUS, Grants.WordFits}
 use Rattle.plain_machine.specs.declared.lock_queue_words.{LockWords.LockWords, Granting.Granting}

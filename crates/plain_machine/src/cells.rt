@@ -18,7 +18,7 @@ pub struct Cell<K, B> {
     pub home: Option<B>,
 }
 
-/// Takes a spot (ticket index) at `lock`, and returns its ticket.
+/// Takes a ticket index at `lock`, and returns its ticket.
 ///
 /// Requires: the lock is in the table.
 #[inline(always)]

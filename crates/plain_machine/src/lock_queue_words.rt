@@ -5,30 +5,30 @@ ghost use Rattle.event_log.specs.declared.ids.TheConstants.{CPUS};
 
 use event_log::CPUS;
 
-/// The words of one lock. They represent two exact counts: how many spots (ticket indices) of the
+/// The words of one lock. They represent two exact counts: how many ticket indices of the
 /// lock were taken, and how often the lock was released.
 pub trait LockQueueWords: Copy + Drop {
-    /// After so many spots taken and so many releases, the words may be these.
+    /// After so many ticket indices taken and so many releases, the words may be these.
     ghost Coupling: { ℕ → ℕ → Self → Type 0 };
 
     /// Returns the words of a lock that no CPU has used.
     fn fresh() -> Self
         ensures { Coupling 0 0 result };
 
-    /// Takes a spot, and returns its ticket: how many were taken before, modulo 2^64.
+    /// Takes a ticket index, and returns its ticket: how many were taken before, modulo 2^64.
     fn take(&mut self) -> u64
         ensures { (taken given : ℕ) → Coupling taken given self.old
             → (result ≡ taken % 2 ^ 64) × Coupling (taken + 1) given self.new };
 
-    /// Returns whether the spot of this ticket is served. The words determine it exactly among
-    /// spots that are as near one another as those of the CPUs of one machine.
+    /// Returns whether the ticket index of this ticket is served. The words determine it exactly
+    /// among ticket indices that are as near one another as those of the CPUs of one machine.
     fn serves(&self, ticket: u64) -> bool
         ensures { (taken given ticket_index : ℕ) → Coupling taken given self.now
             → given ≤ ticket_index
             → ticket_index < given + CPUS → ticket ≡ ticket_index % 2 ^ 64
             → result ≡ (given == ticket_index) };
 
-    /// Releases the lock: the next spot is served.
+    /// Releases the lock: the next ticket index is served.
     fn give(&mut self)
         ensures { (taken given : ℕ) → Coupling taken given self.old
             → Coupling taken (given + 1) self.new };

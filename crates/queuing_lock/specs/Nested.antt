@@ -24,7 +24,8 @@ lock_call section = section.edit
 abbrev pub as_section : {F R : Type 0} → QLockCall F R → QLockSection F R
 as_section e = record { edit = e }
 
--- the section that a passed-down section means: that of the call that is meant, with this parcel
+-- the section that a passed-down section means: that of the call that is meant, with this message
+-- slot
 abbrev pub abstract_lock_section : {H F R : Type 0} → (H → MessageSlot → F) → QLockSection H R
     → MessageSlot
     → QLockSection F R
@@ -35,7 +36,17 @@ abstract_lock_section abstract_call section message_slot =
 abbrev pub unowned : {B : Type 0} → B → QLockBlock B
 unowned above = record { busy = None; above = above }
 
--- the lock that a block with waiting lists is: its owner is the thread in the busy word
+-- the lock that a block with a busy word is: its owner is the thread in that word
+abbrev pub lock_of_view : {B : Type 0} → LockState (QLockBlock B) → LockState B
+lock_of_view state = record {
+  owner = state.above.busy;
+  sleepers = state.sleepers;
+  receivers = state.receivers;
+  senders = state.senders;
+  above = state.above.above;
+}
+
+-- the same of a block with waiting lists
 abbrev pub nested_lock_of : {B : Type 0} → SleepState (QLockBlock B) → LockState B
 nested_lock_of state = record {
   owner = state.above.busy;

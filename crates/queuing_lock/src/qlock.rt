@@ -1,11 +1,14 @@
 //! Queuing locks.
 
-use crate::edits::QLockSection;
+ghost use Rattle.std.specs.Prelude.{◌≡◌};
+ghost use Rattle.queuing_lock.specs.Nested.{lock_of_view};
+
+use crate::edits::{QLockBlock, QLockSection};
 use crate::slept::Slept;
 use event_log::{BufId, CpuId, Tid};
 use layer_traits::{
-    BufferCall, Locked, Outcome, OwnThreads, OwnedThreadLayer, Pass, Payload, QLockCall, QLockLaw,
-    QLockReply, SleepLaw, Sleeps, ThreadLayer, WaitList,
+    BufferCall, LockView, Locked, Outcome, OwnThreads, OwnedThreadLayer, Pass, Payload, QLockCall,
+    QLockLaw, QLockReply, SleepLaw, Sleeps, ThreadLayer,
 };
 
 /// One CPU's part of queuing locks over a part `S` of a layer that lets threads sleep. For each
@@ -152,6 +155,20 @@ impl<F: Locked, S: ThreadLayer<SleepLaw<QLockSection<F, F::Release>>>> ThreadLay
     ghost idle = { λ p m coupled none. S.idle p.lower m coupled.0 (none_beneath (S.under_way p.lower) none) };
 }
 
+/// Returns what a block with a busy word shows to the layers above: its owner is the thread in that
+/// word.
+fn owned<B>(view: LockView<'_, QLockBlock<B>>) -> LockView<'_, B>
+    ensures { result ≡ lock_of_view view.entry }
+{
+    LockView {
+        owner: view.above.busy,
+        sleepers: view.sleepers,
+        receivers: view.receivers,
+        senders: view.senders,
+        above: &view.above.above,
+    }
+}
+
 impl<F: Locked, S: OwnedThreadLayer<SleepLaw<QLockSection<F, F::Release>>>> OwnedThreadLayer<
     QLockLaw<F>,
 > for QLock<S> {
@@ -167,30 +184,12 @@ impl<F: Locked, S: OwnedThreadLayer<SleepLaw<QLockSection<F, F::Release>>>> Owne
 
     ghost queue_with = { λ p d. S.queue_with p.lower d };
 
-    fn block_in(m: &S::Machine, b: BufId) -> Option<&F::Block> {
-        Some(&S::block_in(m, b)?.above)
+    fn block_in(m: &S::Machine, b: BufId) -> Option<LockView<'_, F::Block>> {
+        Some(owned(S::block_in(m, b)?))
     }
 
-    fn block_here(&self, b: BufId) -> Option<&F::Block> {
-        Some(&self.lower.block_here(b)?.above)
-    }
-
-    fn owner_in(m: &S::Machine, b: BufId) -> Option<Option<Tid>> {
-        Some(S::block_in(m, b)?.busy)
-    }
-
-    fn owner_here(&self, b: BufId) -> Option<Option<Tid>> {
-        Some(self.lower.block_here(b)?.busy)
-    }
-
-    #[inline(always)]
-    fn wait_list_in(m: &S::Machine, b: BufId, t: Tid) -> Option<WaitList> {
-        S::wait_list_in(m, b, t)
-    }
-
-    #[inline(always)]
-    fn wait_list_here(&self, b: BufId, t: Tid) -> Option<WaitList> {
-        self.lower.wait_list_here(b, t)
+    fn block_here(&self, b: BufId) -> Option<LockView<'_, F::Block>> {
+        Some(owned(self.lower.block_here(b)?))
     }
 
     #[inline(always)]

@@ -1,6 +1,6 @@
 -- What each change of a CPU's private scheduling state requires, and what a call leaves that
 -- touches nothing shared.
-use Rattle.std.specs.Prelude.{◌≡◌, ◌<◌, false, List, ◌++◌, Option, Some}
+use Rattle.std.specs.Prelude.{◌≡◌, ◌<◌, false, List, Option, Some}
 use Rattle.event_log.specs.declared.ids.{Tid.Tid, TheConstants.THREADS}
 use Rattle.thread_blocks.specs.Queues.{is_in, AreApart}
 use Rattle.layer_traits.specs.declared.passes.Pass.{Pass, TheVariants.{Switch, YieldNow, Drain}}
@@ -8,7 +8,7 @@ use Rattle.layer_traits.specs.declared.passes.Pass.TheVariants.{MakeReady, End}
 use Rattle.layer_traits.specs.declared.queue_edits.QueueAnswer.{QueueAnswer, TheVariants.Done}
 use Rattle.layer_traits.specs.declared.queue_edits.QueueAnswer.TheVariants.{Taken, Answer}
 use Rattle.layer_traits.specs.{declared.scheds.SchedCall.SchedCall, Threads.MoveRules.MoveRules}
-use Rattle.layer_traits.specs.Threads.{Passes.{switched, finished}, Places.Threads}
+use Rattle.layer_traits.specs.Threads.{Passes.{switched, finished}, Places.Threads, RunQueue.joins}
 use Rattle.layer_traits.specs.declared.scheds.SchedCall.TheVariants as call
 
 -- the thread that runs may end: it has not ended yet
@@ -22,7 +22,7 @@ abbrev pub MayJoin : List Tid → Threads → Type 0
 MayJoin queue local =
     AreApart queue local.ready
     × ((t : Tid) → local.current ≡ Some t
-    → (t.0 < THREADS) × (is_in t (local.ready ++ queue) ≡ false))
+    → (t.0 < THREADS) × (is_in t (joins queue local.ready) ≡ false))
 
 -- a thread that was woken may become ready: it is not ready yet
 abbrev pub MaySettle : Option Tid → Threads → Type 0

@@ -12,6 +12,7 @@
 
 mod calls;
 mod owns;
+mod run_queue;
 mod sched;
 
 pub use calls::call_beneath;

@@ -9,6 +9,7 @@ ghost use Rattle.layer_traits.specs.{Threads.Passes.{took_pending, passed_on, fi
 ghost use Rattle.{layer_traits.specs.Blocks.Payloads.{abstract_queue_answer, abstract_sched_answer}, scheduler.specs.Owns.{MayFinish, MayJoin, MaySettle}};
 ghost use Rattle.scheduler.specs.Owns.{MayTake, passed_locally};
 
+use crate::run_queue::{join, join_all};
 use event_log::{CpuId, Tid};
 use layer_traits::{BareQueueAnswer, Moves, OwnThreads, Pass, Payload, SchedAnswer, WaitList};
 use thread_blocks::{ThreadList, ThreadQueue};
@@ -61,9 +62,9 @@ fn join_ready(local: &mut OwnThreads, queue: &mut ThreadList)
     requires { MayJoin queue.old local.old }
     ensures { local.new ≡ took_pending queue.old local.old }
 {
-    queue.drain_into(&mut local.ready);
+    join_all(&mut local.ready, queue);
     if let Some(t) = local.current {
-        local.ready.push(t);
+        join(&mut local.ready, t);
     }
     local.current = None;
 }
@@ -94,7 +95,7 @@ fn settle(
     }
     let Some(t) = woke else { return };
     if is_home(homes, cpu, t) {
-        local.ready.push(t);
+        join(&mut local.ready, t);
     } else {
         local.hand = Some(t);
     }

@@ -1,2 +1,1 @@
 pub mod PollLemmas
-pub mod BootLemmas

@@ -14,14 +14,14 @@ use Rattle.thread_blocks.specs.Queues.{first}
 abbrev pub slept_edit : {E : Type 0} → SleepEdit E → E
 slept_edit d = d.edit
 
--- the edit that a passed-down edit means: the edit of the layer above, with the parcel of the
+-- the edit that a passed-down edit means: the edit of the layer above, with the message slot of the
 -- payload
 abbrev pub abstract_nested_edit : {H E : Type 0} → (H → MessageSlot → E) → SleepEdit H → Payload
     → SleepEdit E
 abstract_nested_edit abstract_call section payload =
     record { edit = abstract_call section.edit payload.message_slot }
 
--- the outcome that is reported, with that parcel
+-- the outcome that is reported, with that message slot
 abbrev pub abstract_nested_answer : {B O : Type 0} → (B → MessageSlot → O) → Outcome B → Payload
     → Outcome O
 abstract_nested_answer abstract_answer outcome payload =

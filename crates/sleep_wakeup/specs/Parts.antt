@@ -23,7 +23,7 @@ pub record Deferred (E O : Type 0) : Type 0 where
   pub edit : E
   pub outcome : Outcome O
 
--- what a deferred outcome reports, given its parcel
+-- what a deferred outcome reports, given its message slot
 abbrev pub abstract_deferred : {E B O : Type 0} → (B → MessageSlot → O) → DeferredOutcome E B
     → Deferred E O
 abstract_deferred abstract_answer k =
@@ -63,7 +63,7 @@ SectionDeferredFits (Some k) (Some under) None = ⊥
 abbrev pub must_wait : {O : Type 0} → Outcome O → Option Tid → Bool
 must_wait outcome hand = not outcome.slept && is_some hand
 
--- what is deferred after the scheduler's result, with this parcel in the payload
+-- what is deferred after the scheduler's result, with this message slot in the payload
 abbrev pub deferred_of_answer : {E B : Type 0} → Option Tid → BufId → E → SchedAnswer (Outcome B)
     → MessageSlot → Option (DeferredOutcome E B)
 deferred_of_answer hand b e Done message_slot = None
@@ -79,7 +79,7 @@ answer_reported deferred hand Done = option_map (λ k. k.outcome) deferred
 answer_reported deferred hand (Answer outcome) =
     if must_wait outcome hand then None else Some outcome
 
--- the parcel in the payload after it: that of the deferred outcome, if it is returned
+-- the message slot in the payload after it: that of the deferred outcome, if it is returned
 abbrev pub parcel_reported : {E B : Type 0} → Option (DeferredOutcome E B) → SchedAnswer (Outcome B)
     → MessageSlot → MessageSlot
 parcel_reported None Done message_slot = message_slot

@@ -9,8 +9,8 @@ use crate::edits::SleepEdit;
 use event_log::{BufId, Tid};
 use layer_traits::{Ghost, MessageSlot, Outcome, Payload, SchedAnswer, SchedCall, Sleeps};
 
-/// A section that is done and has not returned: which it is, its outcome, and the parcel that the
-/// outcome brings. The section's edit was passed down with its call: only clauses mention it.
+/// A section that is done and has not returned: which it is, its outcome, and the message slot that
+/// the outcome brings. The section's edit was passed down with its call: only clauses mention it.
 #[derive(Drop)]
 pub struct DeferredOutcome<E, B> {
     /// The buffer whose block it edited.
@@ -19,7 +19,7 @@ pub struct DeferredOutcome<E, B> {
     pub edit: Ghost<E>,
     /// What it returns once the thread that it woke has left the hand.
     pub outcome: Outcome<B>,
-    /// The payload's parcel at that time: other calls use the payload until then.
+    /// The payload's message slot at that time: other calls use the payload until then.
     pub message_slot: MessageSlot,
 }
 
@@ -40,8 +40,8 @@ pub(crate) fn section<H: Drop>(buffer: BufId, edit: H) -> SchedCall<SleepEdit<H>
 }
 
 /// Takes the scheduler's result, and `hand`, the thread in the hand after it. Returns the outcome
-/// of the section if it can be returned, with its parcel in the payload. The outcome is deferred
-/// while its caller continues and a thread is in the hand.
+/// of the section if it can be returned, with its message slot in the payload. The outcome is
+/// deferred while its caller continues and a thread is in the hand.
 #[inline(always)]
 pub(crate) fn complete<E, B: Drop>(
     deferred: &mut Option<DeferredOutcome<E, B>>,
@@ -92,7 +92,7 @@ pub(crate) fn complete_home<E, B: Drop>(
     complete(deferred, hand, buffer, edit, answer, payload)
 }
 
-/// Returns the deferred outcome, if there is one, with its parcel in the payload. It is not
+/// Returns the deferred outcome, if there is one, with its message slot in the payload. It is not
 /// inlined, since few polls wake a thread of another CPU.
 #[inline(never)]
 fn release<E, B: Drop>(
@@ -109,7 +109,7 @@ fn release<E, B: Drop>(
     Some(k.outcome)
 }
 
-/// Defers this outcome of a section, with the parcel in the payload. It is not inlined, as
+/// Defers this outcome of a section, with the message slot in the payload. It is not inlined, as
 /// [`release`] is not.
 #[inline(never)]
 fn keep<E, B: Drop>(

@@ -1,11 +1,13 @@
 //! A section's edit with the waiting lists of its lock. No call allocates memory or waits.
 
 ghost use Rattle.std.specs.Prelude.{◌≡◌};
-ghost use Rattle.layer_traits.specs.{declared.moves.WaitList.TheVariants.{Sleepers, Receivers, Senders}, Views.Owned.wait_list_with, Layers.Sleeping.joined};
+ghost use Rattle.layer_traits.specs.{declared.moves.WaitList.TheVariants.{Sleepers, Receivers, Senders}, Views.Owned.unowned_lock, Layers.Sleeping.joined};
 ghost use Rattle.{layer_traits.specs.Layers.Sleeping.{left, wait_list_joined, woken_by}, sleep_wakeup.specs.Nested.state_of};
 
 use event_log::{THREADS, Tid};
-use layer_traits::{Edit, Moves, Outcome, Payload, Sleeps, SplitEdit, WaitList, Wake, WholeSleeps};
+use layer_traits::{
+    Edit, LockView, Moves, Outcome, Payload, Sleeps, SplitEdit, WaitList, Wake, WholeSleeps,
+};
 use thread_blocks::ThreadQueue;
 
 /// An edit of the layer above, with its effect on the waiting lists.
@@ -38,20 +40,17 @@ fn join(queue: &mut ThreadQueue, t: Tid)
     }
 }
 
-/// Returns the waiting list that has `t`, if any.
-pub fn wait_list_in_block<B>(block: &SleepBlock<B>, t: Tid) -> Option<WaitList>
-    ensures { result ≡ wait_list_with t (state_of block.now) }
+/// Returns what a block shows to the layers above: its lock has no owner.
+pub fn view_of<B>(block: &SleepBlock<B>) -> LockView<'_, B>
+    ensures { result ≡ unowned_lock (state_of block.now) }
 {
-    if block.sleepers.contains(t) {
-        return Some(WaitList::Sleepers);
+    LockView {
+        owner: None,
+        sleepers: &block.sleepers,
+        receivers: &block.receivers,
+        senders: &block.senders,
+        above: &block.above,
     }
-    if block.receivers.contains(t) {
-        return Some(WaitList::Receivers);
-    }
-    if block.senders.contains(t) {
-        return Some(WaitList::Senders);
-    }
-    None
 }
 
 /// Removes the thread that leaves a waiting list, and returns the thread that this wakes.

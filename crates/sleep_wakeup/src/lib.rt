@@ -4,7 +4,7 @@
 //!
 //! ```text
 //! let mut part = Sleeper::<E, S>::part(CpuId(0), &homes, 1);
-//! let call = BufferCall { buffer: BufId(0), edit: edit.hand_on(&mut payload.parcel) };
+//! let call = BufferCall { buffer: BufId(0), edit: edit.hand_on(&mut payload.message_slot) };
 //! match part.poll(&mut machine, call, &mut payload) {
 //!     None => {}           // the caller must poll the same call again
 //!     Some(outcome) => {}  // done: outcome.slept says whether the caller sleeps

@@ -8,11 +8,11 @@ ghost use Rattle.sleep_wakeup.specs.Nested.{nested_rules, abstract_nested_answer
 ghost use Rattle.layer_traits.specs.declared.scheds.SchedCall.TheVariants as call;
 
 use crate::deferred::{DeferredOutcome, complete, complete_home, done, kept_edit, section};
-use crate::edits::{SleepEdit, wait_list_in_block};
+use crate::edits::{SleepEdit, view_of};
 use event_log::{BufId, CpuId, Tid};
 use layer_traits::{
-    BufferCall, Layer, Outcome, OwnThreads, OwnedLayer, OwnedThreadLayer, Pass, Payload,
-    SchedAnswer, SchedCall, SchedLaw, SleepLaw, Sleeps, ThreadLayer, WaitList,
+    BufferCall, Layer, LockView, Outcome, OwnThreads, OwnedLayer, OwnedThreadLayer, Pass, Payload,
+    SchedAnswer, SchedCall, SchedLaw, SleepLaw, Sleeps, ThreadLayer,
 };
 
 /// One CPU's part of sleep and wakeup over a part of a scheduler (Gu et al., PLDI 2018). The
@@ -66,7 +66,7 @@ fn send_home<E: Sleeps, S: Layer<SchedLaw<SleepEdit<E>>>>(
           local = S.local lower.new;
           answer =
               abstract_result (abstract_sched_answer (abstract_nested_answer E.abstract_answer))
-        result
+              result
               payload.new;
         }) }
 {
@@ -222,30 +222,12 @@ impl<E: Sleeps, S: OwnedLayer<SchedLaw<SleepEdit<E>>>> OwnedThreadLayer<SleepLaw
 
     ghost queue_with = { λ p d. S.queue_with p.lower d };
 
-    fn block_in(m: &S::Machine, b: BufId) -> Option<&E::Block> {
-        Some(&S::block_in(m, b)?.above)
+    fn block_in(m: &S::Machine, b: BufId) -> Option<LockView<'_, E::Block>> {
+        Some(view_of(S::block_in(m, b)?))
     }
 
-    fn block_here(&self, b: BufId) -> Option<&E::Block> {
-        Some(&self.lower.block_here(b)?.above)
-    }
-
-    fn owner_in(m: &S::Machine, b: BufId) -> Option<Option<Tid>> {
-        S::block_in(m, b)?;
-        Some(None)
-    }
-
-    fn owner_here(&self, b: BufId) -> Option<Option<Tid>> {
-        self.lower.block_here(b)?;
-        Some(None)
-    }
-
-    fn wait_list_in(m: &S::Machine, b: BufId, t: Tid) -> Option<WaitList> {
-        wait_list_in_block(S::block_in(m, b)?, t)
-    }
-
-    fn wait_list_here(&self, b: BufId, t: Tid) -> Option<WaitList> {
-        wait_list_in_block(self.lower.block_here(b)?, t)
+    fn block_here(&self, b: BufId) -> Option<LockView<'_, E::Block>> {
+        Some(view_of(self.lower.block_here(b)?))
     }
 
     #[inline(always)]

@@ -16,14 +16,3 @@ new_at {E = E} table_view (suc n) k below = dite (ℕ_discrete k n)
     (λ (e : k ≡ n). rw e (last_got (new_seat_views table_view n) (new_seat_view table_view n) n (length_new E table_view n)))
     (λ (ne : k ≢ n). longer_got (new_seat_views table_view n) (new_seat_view table_view n ∷ []) k (new_seat_view table_view k)
     (new_at table_view n k (omega arith)))
-
--- the new keys are those of all CPUs
-pub new_cover : {E B : Type 0} (table_view : TableView B) (n : ℕ) → Covers {E = E} n (new_seat_views table_view n)
-new_cover table_view n c below = (c.0, new_seat_view table_view c.0, new_at table_view n c.0 below, refl)
-
--- none of them has a ticket outstanding
-pub new_over : {E B : Type 0} (table_view : TableView B) (n : ℕ) → All (IsOver {E = E} table_view) (new_seat_views table_view n)
-new_over {E = E} table_view n k d below =
-    let under : k < n = rw (length_new E table_view n) at below in
-    rw (get_or_from_slice_get (new_seat_views {E = E} table_view n) k (new_seat_view table_view k) d (new_at table_view n k under))
-    (record { table = refl; outside = refl })

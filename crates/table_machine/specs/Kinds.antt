@@ -17,7 +17,7 @@ pub record WordKind : Type 1 where
   pub gives_at : ℕ → ℕ
   -- what it stores there; None if it adds 1
   pub stores : ℕ → Option ℕ
-  -- after so many spots taken and so many releases, the words are these
+  -- after so many ticket indices taken and so many releases, the words are these
   pub Coupling : ℕ → ℕ → (ℕ → ℕ) → Type 0
 
 -- the words at the start
@@ -35,7 +35,7 @@ pub record IsWordKind (kind : WordKind) : Type 0 where
   pub looks_within : (ticket : ℕ) → kind.looks_at ticket ≤ CPUS
   -- a holder writes one of them
   pub gives_within : (ticket : ℕ) → kind.gives_at ticket ≤ CPUS
-  -- the words at the start agree with no spot taken and no release
+  -- the words at the start agree with no ticket index taken and no release
   pub begins : (w : ℕ → ℕ) → ((i : ℕ) → i ≤ CPUS → w i ≡ first_words kind.opens i)
       → kind.Coupling 0 0 w
   -- words that are equal agree with the same counts
@@ -43,12 +43,12 @@ pub record IsWordKind (kind : WordKind) : Type 0 where
       → kind.Coupling taken given w → kind.Coupling taken given v
   -- word 0 is the next ticket
   pub next_is : (taken given : ℕ) (w : ℕ → ℕ) → kind.Coupling taken given w → w 0 ≡ taken % 2 ^ 64
-  -- after word 0, and no other, grew by 1, one spot more is taken
+  -- after word 0, and no other, grew by 1, one ticket index more is taken
   pub took : (taken given : ℕ) (w v : ℕ → ℕ) → kind.Coupling taken given w
       → v 0 ≡ (w 0 + 1) % 2 ^ 64
       → ((i : ℕ) → i ≤ CPUS → i ≢ 0 → v i ≡ w i) → kind.Coupling (taken + 1) given v
-  -- the word of a waiter fewer than CPUS spots after the served one serves its ticket exactly if
-  -- its spot is next
+  -- the word of a waiter fewer than CPUS ticket indices after the served one serves its ticket
+  -- exactly if its ticket index is next
   pub hits : (taken given : ℕ) (w : ℕ → ℕ) → kind.Coupling taken given w → (ticket ticket_index : ℕ)
       → given ≤ ticket_index → ticket_index < given + CPUS → ticket ≡ ticket_index % 2 ^ 64
       → kind.serves ticket (w (kind.looks_at ticket)) ≡ (given == ticket_index)

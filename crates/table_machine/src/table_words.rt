@@ -33,7 +33,7 @@ pub trait TableWords: Drop {
     fn stores(ticket: u64) -> Option<u64>
         ensures { result ≡ kind.stores ticket };
 
-    /// Law: the words determine exactly which spot (ticket index) is served.
+    /// Law: the words determine exactly which ticket index is served.
     ghost lawful: { IsWordKind kind };
 }
 

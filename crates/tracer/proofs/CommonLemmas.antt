@@ -1,4 +1,5 @@
--- The line of a send or a receive of one word is read in one pass, up to the line feed that ends the text.
+-- The line of a send or a receive of one word is read in one pass, up to the line feed that ends
+-- the text.
 use Rattle.std.proofs.Common.{◌≡◌, ◌≢◌, ℕ, ◌+◌, ◌-◌, ◌*◌, ◌%◌, ◌^◌, ◌<◌, ◌≤◌, ◌==◌, true, false, List, [], ◌∷◌, ◌++◌, length, get_or, take, drop, Option, Some}
 use Rattle.std.proofs.{Common.{None, Result, refl, sym, ap, ◌∙◌, subst, lit<, inl, inr, append_assoc, length-append, arith, rules}, lemmas.Bool.cases_lt}
 use Rattle.std.proofs.lemmas.{Bool.Decides.nat_tests, List.{get_or-append_right, get_or-drop, length-drop, take_rest, Elements.All-from_recursion}}

@@ -72,9 +72,6 @@ of_version_again v e high fits = grind (arith, covers_first, covers_second, spel
 
 -- ---- the pieces of an entry
 
-abbrev spelled_as : List ℕ → List ℕ → Kind → List ℕ → List ℕ → List ℕ → List ℕ → Digits
-spelled_as cpu thread kind buffer value op pos = record { cpu = cpu; thread = thread; kind = kind; buffer = buffer; value = value; op = op; pos = pos }
-
 abbrev pub shape_of : Digits → List (List ℕ)
 shape_of d = d.cpu ∷ d.thread ∷ kind_word d.kind ∷ d.buffer ∷ d.value ∷ d.op ∷ d.pos ∷ []
 

@@ -94,9 +94,6 @@ pub record NumbersTaken (words : List (List ℕ)) (ns : List ℕ) : Type 0 where
   pub small : AreWords ns
   pub each : length ns ≡ length words
 
-pub same_pieces : (p w : List ℕ) (ps qs : List (List ℕ)) → p ≡ w → ps ≡ qs → p ∷ ps ≡ w ∷ qs
-same_pieces p w ps qs e1 e2 = rw (e1, e2) refl
-
 numbers_taken : (words : List (List ℕ)) (ns : List ℕ) → numbers_in words ≡ Ok ns → NumbersTaken words ns
 numbers_taken [] ns e = subst (NumbersTaken []) (same_ok [] ns e) (record { spelled = refl; small = tt; each = refl })
 numbers_taken (w ∷ ws) ns e = grind (arith, in_range_taken 18446744073709551615 w, numbers_taken ws)

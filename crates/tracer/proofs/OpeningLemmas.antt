@@ -102,18 +102,6 @@ pub record CapacityTaken (v : Version) (count : ℕ) (caps : List ℕ) (ps : Lis
   pub small : IsCapacity capacity
   pub is : after ≡ opened v (behind_cap (length caps + 1) count) (caps ++ capacity ∷ [])
 
-capacity_found : (v : Version) (count : ℕ) (caps : List ℕ) (ps : List (List ℕ)) (digits : List ℕ) (capacity : ℕ) (after : TextProgress)
-    → ps ≡ codes "cap" ∷ decimal (length (map fresh caps)) ∷ digits ∷ [] → IsInRange CAPACITY digits capacity → 0 < capacity
-    → record {
-      at = behind_cap (length (map fresh caps) + 1) count;
-      version = v;
-      lowest = One;
-      buffers = map fresh caps ++ fresh capacity ∷ [];
-      entries = 0;
-    } ≡ after
-    → CapacityTaken v count caps ps after capacity
-capacity_found v count caps ps digits capacity after shape range some is = grind (arith, length-map, map_push)
-
 pub capacity_line_taken : (v : Version) (at : NextLine) (count : ℕ) (caps : List ℕ) (ps : List (List ℕ)) (after : TextProgress)
     → capacity_line count ps (opened v at caps) ≡ Ok after → (capacity : ℕ) × CapacityTaken v count caps ps after capacity
 unfolding capacity_line

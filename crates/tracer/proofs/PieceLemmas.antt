@@ -17,13 +17,6 @@ no_pieces : (line : List ℕ) (ps : List (List ℕ)) → line_pieces line ≡ ps
 no_pieces line [] e = absurd (let n = ap length e in omega (arith, length-slice_split (λ b. b == 32) line))
 no_pieces line (p ∷ ps) e = refl
 
--- all numbers are read
-pieces_end : (pieces : Pieces) (ns : List Message) (i : ℕ) → length ns ≤ i → are_values (left_of pieces) (drop i ns) ≡ is_none pieces.rest
-pieces_end pieces ns i le = grind (arith, drop_all, no_pieces)
-
-same_none : (line : Option (Bor (List ℕ))) (b : Bool) → is_some line ≡ not b → b ≡ is_none line
-same_none line b e = grind arith
-
 pub none_left : (pieces : Pieces) (ns : List Message) (i : ℕ) (b : Bool) → length ns ≤ i → is_some pieces.rest ≡ not b
     → b ≡ are_values (left_of pieces) (drop i ns)
 none_left pieces ns i b le e = grind (arith, drop_all, no_pieces)

@@ -138,12 +138,13 @@ impl From<ReadFailed> for InputFault {
 }
 
 /// Judges all that is left of an input, as [`check`] judges a text. It is read and judged in parts,
-/// and of what is judged none is kept: its memory is twice the longest line, and 64 KB where no line
-/// is longer. Behind a line with a fault the rest is read all the same, so a verdict is given only
-/// where the whole input could be read. It takes memory, and may wait for its input.
+/// and of what is judged none is kept: its memory is twice the longest line, and 64 KB where no
+/// line is longer. Behind a line with a fault the rest is read all the same, so a verdict is given
+/// only where the whole input could be read. It takes memory, and may wait for its input.
 ///
-/// Errors: `NoMemory` if an allocation was refused. `ReadFault` if a read failed, for another reason
-/// than that a signal interrupted it, or if the input has 2^64 lines. Then some of the input is read.
+/// Errors: `NoMemory` if an allocation was refused. `ReadFault` if a read failed, for another
+/// reason than that a signal interrupted it, or if the input has 2^64 lines. Then some of the input
+/// is read.
 pub fn check_input<R: Read>(alloc: Global, input: &mut R) -> Result<Verdict, InputFault>
     ensures verdict { IfOk result (λ verdict. IsVerdictOn (R.remaining input.old) verdict) }
     ensures end { OnOk result (IsAtEnd (R.remaining input.new)) }

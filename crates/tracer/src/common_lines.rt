@@ -1,6 +1,6 @@
-//! The line of a send or a receive of one word, as nearly all lines of a trace are. It is read in one
-//! pass: no call looks for its end before, nor for the end of the text, since the text ends in a line
-//! feed. No call takes memory or waits.
+//! The line of a send or a receive of one word, as nearly all lines of a trace are. It is read in
+//! one pass: no call looks for its end before, nor for the end of the text, since the text ends in
+//! a line feed. No call takes memory or waits.
 
 ghost use Rattle.std.specs.{Prelude.{◌≡◌, ◌<◌, ◌≤◌, ◌++◌, ◌∷◌, [], decimal, drop, length, slice_index, take, true, IfSome}, Char.is_ascii_digit};
 ghost use Rattle.event_log.specs.declared.{ids.TheConstants.{BUFFERS}, digits.TheConstants.{SHORT}};
@@ -22,8 +22,8 @@ pub fn lines_end(text: &[u8]) -> usize
     end
 }
 
-/// The digits that the text begins with, of which there is one at least: their number, where they are
-/// at most `SHORT`, and how many they are. Where the first is a zero no other is read.
+/// The digits that the text begins with, of which there is one at least: their number, where they
+/// are at most `SHORT`, and how many they are. Where the first is a zero no other is read.
 // More digits than that wrap round: a test of their count here would cost one for each digit.
 #[tactic(auto, using(crate::proofs::CommonLemmas::first_digit, crate::proofs::CommonLemmas::digits_spell))]
 #[inline(always)]
@@ -47,8 +47,8 @@ fn first_digits(text: &[u8]) -> (u64, usize)
     (number, count)
 }
 
-/// The number of at most `most` that the text begins with, where the byte `end` is after it, and what
-/// is after that byte. A number of more than `SHORT` digits is none here.
+/// The number of at most `most` that the text begins with, where the byte `end` is after it, and
+/// what is after that byte. A number of more than `SHORT` digits is none here.
 #[tactic(auto, using(crate::proofs::CommonLemmas::number_cut))]
 #[inline(always)]
 fn number_before(text: &[u8], most: u64, end: u8) -> Option<(u64, &[u8])>
@@ -125,8 +125,8 @@ fn letter_before_space(text: &[u8]) -> Option<&[u8]>
     Some(rest)
 }
 
-/// The entry whose line the text begins with, and what is after the line. `None` where the text does
-/// not begin with the line of a send or a receive of one word whose numbers are in range.
+/// The entry whose line the text begins with, and what is after the line. `None` where the text
+/// does not begin with the line of a send or a receive of one word whose numbers are in range.
 #[inline(always)]
 pub fn common_entry(text: &[u8]) -> Option<(Entry, &[u8])>
     requires ends { EndsInLine text.now }

@@ -73,9 +73,9 @@ impl Judge {
         matches!(self.at, NextLine::Done)
     }
 
-    /// Judges the first line of a text that ends in a line feed. Gives the first reason against it, if
-    /// there is one, and what is after its line feed. Nearly all lines are those of entries that are
-    /// read in one pass; any other is cut off first.
+    /// Judges the first line of a text that ends in a line feed. Gives the first reason against it,
+    /// if there is one, and what is after its line feed. Nearly all lines are those of entries that
+    /// are read in one pass; any other is cut off first.
     #[tactic(auto, using(crate::proofs::CommonLemmas::common_step))]
     #[inline(always)]
     pub fn next_line<'a>(&mut self, text: &'a [u8]) -> (Result<(), Reason>, &'a [u8])
@@ -190,8 +190,8 @@ impl Judge {
     ///
     /// Requires: the entry's op and its pos are less than [`ENTRIES`].
     ///
-    /// Errors: `Range` where there were as many entries as there may be, else the first reason against
-    /// the entry.
+    /// Errors: `Range` where there were as many entries as there may be, else the first reason
+    /// against the entry.
     #[tactic(auto, unfolding(crate::specs::Steps::judged_entry))]
     #[inline(always)]
     fn enter(&mut self, entry: &Entry) -> Result<(), Reason>

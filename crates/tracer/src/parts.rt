@@ -76,8 +76,8 @@ impl Part {
 
     /// Reads until its room is full or the input ends. Gives whether the input ended.
     ///
-    /// Errors: a read that failed, and never that a signal interrupted one; then some of the input may
-    /// be lost.
+    /// Errors: a read that failed, and never that a signal interrupted one; then some of the input
+    /// may be lost.
     pub fn fill<R: Read>(&mut self, input: &mut R) -> Result<bool, ReadFailed>
         ensures room { bytes_room self.new ≡ bytes_room self.old }
         ensures full { result ≡ Ok false → length (held self.new) ≡ bytes_room self.new }

@@ -27,7 +27,8 @@ pub fn cut(text: &[u8], at: u8) -> Option<(&[u8], &[u8])>
 /// How many bytes are compared at a time where a line's end is looked for.
 const CHUNK: usize = 16;
 
-// Whether the chunk holds the byte. Nothing leaves the loop early, so all bytes are compared at once.
+// Whether the chunk holds the byte. Nothing leaves the loop early, so all bytes are compared at
+// once.
 #[inline(always)]
 fn holds(chunk: &[u8; CHUNK], at: u8) -> bool
     ensures { result ≡ list_any (λ b. b == at) chunk.now }

@@ -1,5 +1,5 @@
--- Abstraction functions: what an edit and a result mean, with the payload beside them: the parcel
--- that is put or brought, and the threads that were taken.
+-- Abstraction functions: what an edit and a result mean, with the payload beside them: the message
+-- slot that is put or brought, and the threads that were taken.
 use Rattle.std.specs.Prelude.{Option, option_map}
 use Rattle.layer_traits.specs.declared.buffer_edits.BareBufferEdit.{BareBufferEdit}
 use Rattle.layer_traits.specs.declared.buffer_edits.BareBufferReply.{BareBufferReply}
@@ -77,7 +77,7 @@ abbrev pub abstract_outcome : {B O P : Type 0} → (B → P → O) → Outcome B
 abstract_outcome abstract_answer outcome payload =
     record { out = abstract_answer outcome.out payload; slept = outcome.slept; woke = outcome.woke }
 
--- of a call on a queuing lock: only an edit inside puts a parcel
+-- of a call on a queuing lock: only an edit inside puts a message slot
 abbrev pub abstract_lock_call : {H F R : Type 0} → (H → MessageSlot → F) → QLockCall H R
     → MessageSlot → QLockCall F R
 abstract_lock_call abstract_call (Acquire t) message_slot = Acquire t

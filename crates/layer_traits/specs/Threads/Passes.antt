@@ -1,14 +1,14 @@
 -- Passes: the scheduling operations of a CPU. What they do to a CPU's own threads and to the
 -- places, where each is allowed, and what one poll of a pass means.
 use Rattle.std.specs.Prelude.{◌≡◌, ◌≢◌, List, [], ◌∷◌, ◌++◌, Option, Some, None, IsSome, is_some}
-use Rattle.std.specs.Prelude.{if◌then◌else◌}
+use Rattle.std.specs.Prelude.{option_to_list, if◌then◌else◌}
 use Rattle.event_log.specs.{declared.ids.{CpuId.CpuId, Tid.Tid}, History.AreForeign}
-use Rattle.thread_blocks.specs.Queues.{first, rest}
+use Rattle.{thread_blocks.specs.Queues.{first, rest}, layer_traits.specs.Threads.RunQueue.joins}
+use Rattle.layer_traits.specs.Threads.Places.{Threads, Step, Pushed, Took, step_with, cpu_of_step}
+use Rattle.layer_traits.specs.Threads.Places.{home_of, is_cpu, pending_by}
 use Rattle.layer_traits.specs.declared.{moves.WaitList.WaitList, passes.Pass.Pass}
 use Rattle.layer_traits.specs.declared.passes.Pass.TheVariants.{Switch, YieldNow, Drain, MakeReady}
-use Rattle.layer_traits.specs.{declared.passes.Pass.TheVariants.End, Threads.Places.{Threads, Step}}
-use Rattle.layer_traits.specs.Threads.Places.{Pushed, Took, step_with, cpu_of_step, home_of, is_cpu}
-use Rattle.layer_traits.specs.Threads.Places.{pending_by}
+use Rattle.layer_traits.specs.declared.passes.Pass.TheVariants.{End}
 
 -- the home, or this CPU if there is none
 abbrev pub or_else : CpuId → Option CpuId → CpuId
@@ -18,11 +18,6 @@ or_else c (Some home) = home
 -- the CPU whose pending queue is for a thread: the thread's home
 abbrev pub queue_for : List CpuId → CpuId → Tid → CpuId
 queue_for homes c t = or_else c (home_of homes t)
-
--- the list of one thread or of none
-abbrev pub as_list : Option Tid → List Tid
-as_list None = []
-as_list (Some t) = t ∷ []
 
 -- context switch: the thread at the head of the run queue runs
 abbrev pub switched : Threads → Threads
@@ -40,7 +35,7 @@ took_pending queue local =
     record {
       current = None;
       hand = local.hand;
-      ready = (local.ready ++ queue) ++ as_list local.current;
+      ready = joins (option_to_list local.current) (joins queue local.ready);
       ended = local.ended;
     }
 
@@ -56,7 +51,7 @@ finished local =
       current = None;
       hand = local.hand;
       ready = local.ready;
-      ended = local.ended ++ as_list local.current;
+      ended = local.ended ++ option_to_list local.current;
     }
 
 -- the thread that ran has gone to sleep, if it did
@@ -71,7 +66,7 @@ own_woken homes c None local = local
 own_woken homes c (Some u) local = record {
   current = local.current;
   hand = if is_cpu c (home_of homes u) then local.hand else Some u;
-  ready = if is_cpu c (home_of homes u) then local.ready ++ u ∷ [] else local.ready;
+  ready = if is_cpu c (home_of homes u) then joins (u ∷ []) local.ready else local.ready;
   ended = local.ended;
 }
 
