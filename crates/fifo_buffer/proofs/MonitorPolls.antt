@@ -8,18 +8,17 @@ use Rattle.layer_traits.specs.declared.{call_states.Stage.{Stage, TheVariants.{I
 use Rattle.layer_traits.specs.declared.{locked.Side.{Side, TheVariants.{Receivers, Senders}}, queue_edits.QueueBlock.QueueBlock, queues.QueueCall.QueueCall}
 use Rattle.layer_traits.specs.declared.{queues.{QueueCall.TheVariants.{Push, TakeAll, OnBuffer}, QueueEvent.QueueEvent}, scheds.SchedCall.SchedCall}
 use Rattle.layer_traits.specs.{declared.{sleeps.Outcome.Outcome, moves.WaitList.WaitList}, Blocks.QueueBlocks.inner, Polling.{Plans.Left, Polls.until_answered}}
-use Rattle.layer_traits.specs.Layers.BufferLaw.{Answered, Calling, IsEffectOf, MayGoOn, MayPollCall, MovesGrow, OthersSeen, RunsOn, buffer_of, call_state_of}
-use Rattle.layer_traits.specs.Layers.{BufferLaw.{cpu_of_entry, entry_of, going, reply_of, side_of, still_calling}, Queues.{Kernel, buffer_sections}}
-use Rattle.layer_traits.specs.Layers.{Queues.{cpu_of_queue_event, event, moves_in, with_section}, Scheds.own_answered, SleepLaw.{Does, MayCall, MayDo}}
-use Rattle.layer_traits.specs.Layers.SleepLaw.{MaySleep, PollResult, SendsHome, SleepPolled, Sleeping, WaitsStill, left_done, left_with, must_send, seen_with}
-use Rattle.layer_traits.specs.{Layers.{SleepLaw.sleep_kernel, Sleeping.{sleep_answer, sleep_moves, woken_by}}, Threads.Passes.{own_slept, own_woken, passed_on}}
-use Rattle.layer_traits.{specs.Threads.{Passes.queue_for, Places.{Step, Threads}}, proofs.CallLemmas.{moves_append, moves_others, moves_over}}
-use Rattle.{layer_traits.proofs.PlaceLemmas.woken_current, fifo_buffer.specs.declared.monitor_blocks.{MonitorEdit.MonitorEdit, MonitorReply.MonitorReply}}
-use Rattle.fifo_buffer.specs.{declared.monitor_blocks.MonitorReply.TheVariants.{Acted, Refused, Woke}, Monitors.{MonitorState, monitor_effect, monitor_joins}}
-use Rattle.fifo_buffer.specs.{Monitors.{monitor_leaves, monitor_rules, monitor_told_by}, SectionPolls.calling_after, MonitorHistories.MonitorLocked}
-use Rattle.fifo_buffer.specs.{MonitorHistories.{monitor_after, monitor_effect_by, monitor_entries, monitor_entry}, MonitorParts.{CallFits, CallGoes, Defers}}
-use Rattle.fifo_buffer.specs.MonitorParts.{AgreesWithStage, acted_at, ask_due, is_waking, is_woke, monitor_recorded, monitor_recorded_if, monitor_reply}
-use Rattle.fifo_buffer.specs.MonitorParts.{monitor_reply_at, monitor_section, monitor_under, stage_by}
+use Rattle.layer_traits.specs.Layers.BufferLaw.{Answered, Calling, IsEffectOf, MayGoOn, MayPollCall, MovesGrow, RunsOn, buffer_of, call_state_of, cpu_of_entry}
+use Rattle.layer_traits.specs.Layers.{BufferLaw.{entry_of, going, reply_of, side_of, still_calling}, Queues.{Kernel, buffer_sections, cpu_of_queue_event}}
+use Rattle.layer_traits.specs.Layers.{Queues.{event, moves_in, with_section}, Scheds.own_answered, SleepLaw.{Does, MayCall, MayDo, MaySleep, PollResult}}
+use Rattle.layer_traits.specs.Layers.SleepLaw.{SendsHome, SleepPolled, Sleeping, WaitsStill, left_done, left_with, must_send, seen_with, sleep_kernel}
+use Rattle.layer_traits.specs.{Layers.Sleeping.{sleep_answer, sleep_moves, woken_by}, Threads.Passes.{own_slept, own_woken, passed_on, queue_for}}
+use Rattle.layer_traits.{specs.Threads.Places.{Step, Threads}, proofs.{CallLemmas.{moves_append, moves_others, moves_over}, PlaceLemmas.woken_current}}
+use Rattle.fifo_buffer.specs.declared.monitor_blocks.{MonitorEdit.MonitorEdit, MonitorReply.{MonitorReply, TheVariants.{Acted, Refused, Woke}}}
+use Rattle.fifo_buffer.specs.Monitors.{MonitorState, monitor_effect, monitor_joins, monitor_leaves, monitor_rules, monitor_told_by}
+use Rattle.fifo_buffer.specs.{SectionPolls.calling_after, MonitorHistories.{MonitorLocked, monitor_after, monitor_effect_by, monitor_entries, monitor_entry}}
+use Rattle.fifo_buffer.specs.MonitorParts.{CallFits, CallGoes, Defers, AgreesWithStage, acted_at, ask_due, is_waking, is_woke, monitor_recorded}
+use Rattle.fifo_buffer.specs.MonitorParts.{monitor_recorded_if, monitor_reply, monitor_reply_at, monitor_section, monitor_under, stage_by}
 use Rattle.layer_traits.specs.declared.scheds.SchedCall.TheVariants as sched
 
 -- an event of the monitors
@@ -70,16 +69,6 @@ module _ (O : LockId → Option MonitorLocked) where
       go (Push q t) = tt
       go (TakeAll q) = tt
       go (OnBuffer b x) = one_entry d e.cpu x.thread b (monitor_effect_by x (monitor_after O (Buffer b) (buffer_sections (more ++ past)))) others.0
-
--- only effects of other CPUs
-pub others_seen : (ActsFor Acts : CpuId → Type 0) (O : LockId → Option MonitorLocked) (others old new : List MonitorEvent) → ((d : CpuId) → Acts d → ActsFor d)
-    → AreForeign ActsFor cpu_of_queue_event others → new ≡ others ++ old
-    → OthersSeen Acts (monitor_entries O (buffer_sections old)) (monitor_entries O (buffer_sections new))
-others_seen ActsFor Acts O others old new weaker foreign is = record {
-  others = entries_over O others old;
-  foreign = λ d acts. entries_others O d others old (foreign d (weaker d acts));
-  is = ap (λ log. monitor_entries O (buffer_sections log)) is ∙ entries_append O others old;
-}
 
 module _ {E B O : Type 0} (k : Kernel E B O) where
   all_own : (c : CpuId) (mine past : List (QueueEvent E)) → AllByRecursion (λ (e : QueueEvent E). e.cpu ≡ c) mine

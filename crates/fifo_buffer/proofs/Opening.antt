@@ -11,23 +11,6 @@ use Rattle.layer_traits.{specs.{Layers.Queues.{buffer_sections, moves_in}, Threa
 use Rattle.fifo_buffer.specs.{FifoFits.{BootsSo, PartFits}, Stances.{IsFreeOf, CallStateFits, line_at}, SectionPolls.{BufferEvent, FitsAt}}
 use Rattle.fifo_buffer.proofs.Callers.{kernel_of}
 
--- a lock around a block, with no owner and no sleeper
-abbrev pub resting : BufferState → BufferLock
-resting block = record { owner = None; sleepers = []; receivers = []; senders = []; above = block }
-
-module _ (opening : LockId → Option (QueueBlock BufferLock)) (caps : List ℕ) where
-  -- each lock opens as one of its kind, and each buffer's with an empty block of its capacity at
-  -- rest
-  pub boots_so : ((lock : LockId) → StartsAs lock (opening lock))
-      → ((b : BufId) → inner opening (Buffer b) ≡ option_map resting (slice_get (map empty_block caps) b.0)) → inner opening ≡ opening_locks caps
-  boots_so kinds blocks = grind (arith, fun_ext, slice_get-map)
-
-  -- the same if the blocks are in a list
-  pub boots_at : (blocks : List BufferState) → ((lock : LockId) → StartsAs lock (opening lock))
-      → ((b : BufId) → inner opening (Buffer b) ≡ option_map resting (slice_get blocks b.0)) → blocks ≡ map empty_block caps
-      → inner opening ≡ opening_locks caps
-  boots_at blocks kinds at are = boots_so kinds (λ b. at b ∙ ap (λ l. option_map resting (slice_get l b.0)) are)
-
 -- the capacities read from the locks are those with which they opened
 pub caps_are : (opening : LockId → Option (QueueBlock BufferLock)) (caps : List ℕ) → inner opening ≡ opening_locks caps → length caps ≤ 256
     → caps_in opening ≡ caps

@@ -35,7 +35,7 @@ BufferEvent = QueueEvent (CvCall BufferEdit)
 abbrev pub BufferOutcome : Type 0
 BufferOutcome = Outcome (QLockReply (CvReply BufferReply))
 
--- the outcome that a section's result describes, with the parcel beside it
+-- the outcome that a section's result describes, with the message slot beside it
 abbrev pub outcome_of : Outcome (QLockReply (CvReply BareBufferReply)) → MessageSlot → BufferOutcome
 outcome_of outcome message_slot =
     abstract_outcome (abstract_lock_answer (abstract_cv_answer abstract_buffer_answer)) outcome

@@ -87,7 +87,7 @@ impl CallStates {
     }
 
     /// Records for `t`, which is in `call`, the result of a poll of its section at this stage, with
-    /// the parcel that the result brought. Returns whether there was a result.
+    /// the message slot that the result brought. Returns whether there was a result.
     ///
     /// Requires: the thread is below `THREADS`, and its call is at this stage.
     #[inline(always)]

@@ -5,16 +5,15 @@ ghost use Rattle.layer_traits.specs.Blocks.{Capacities.caps_in, BufferProtocol.b
 ghost use Rattle.layer_traits.specs.Layers.{BufferLaw.{answer_in, buffer_of, buffering, going, stage_plan, replied, call_state_of}, QLocking.lock_moves};
 ghost use Rattle.layer_traits.specs.{Layers.{QLocking.lock_rules, QLockLaw.{is_handed, slept_for}, Queues.buffer_sections}, Polling.Framed.Framed};
 ghost use Rattle.{layer_traits.specs.Polling.Plans.{Follows, table_of}, event_log.specs.declared.ids.{LockId.TheVariants.Buffer, TheConstants.THREADS}};
-ghost use Rattle.fifo_buffer.specs.SectionPolls.{MayPollSection, Sizes, SectionPolled, calling_after, is_at_once, reply_at};
+ghost use Rattle.fifo_buffer.specs.{OwnedLaws.buffer_shown, SectionPolls.{MayPollSection, Sizes, SectionPolled, calling_after, is_at_once, reply_at}};
 
 use crate::call_state_table::CallStates;
 use crate::sections::{answers_at_once, reply, section};
-use arrayvec::ArrayVec;
-use event_log::{BufId, CAPACITY, CpuId, Msg, Tid};
+use event_log::{BufId, CpuId, Tid};
 use layer_traits::{
-    BufferCall, BufferEdit, BufferLaw, Call, CallLayer, CvLaw, Effect, Ghost, OwnThreads,
-    OwnedBuffers, OwnedThreadLayer, Pass, Payload, PollRun, ReplyKind, Stage, ThreadLayer,
-    WaitList,
+    BufferBlock, BufferCall, BufferEdit, BufferLaw, BufferView, Call, CallLayer, CvLaw, Effect,
+    Ghost, LockView, OwnThreads, OwnedBuffers, OwnedThreadLayer, Pass, Payload, PollRun, ReplyKind,
+    Stage, ThreadLayer,
 };
 
 /// What a poll of a section of a call did.
@@ -315,70 +314,44 @@ impl<C: ThreadLayer<CvLaw<BufferEdit>>> CallLayer<BufferLaw> for Fifo<C> {
     ghost opens = { λ step m homes c fresh. opens_so (caps_in (C.opening m)) homes c (C.opening m) (C.opens m c fresh.0.0) fresh.4 fresh.5 fresh.6 };
 }
 
+/// Returns what the buffer of a lock's block shows.
+fn buffer_view(view: LockView<'_, BufferBlock>) -> BufferView<'_>
+    ensures { result ≡ buffer_shown view.entry }
+{
+    BufferView {
+        items: view.above.items(),
+        closed: view.above.is_closed(),
+        owner: view.owner,
+        sleepers: view.sleepers,
+        receivers: view.receivers,
+        senders: view.senders,
+    }
+}
+
 impl<C: OwnedThreadLayer<CvLaw<BufferEdit>>> OwnedBuffers for Fifo<C> {
     ghost use Rattle.{std.specs.Prelude.option_map, event_log.specs.{Buffers.items_of, Runs.is_closed}, layer_traits.proofs.ActedLemmas.owner_by_acts};
     ghost use Rattle.layer_traits.{proofs.OwnedLemmas.{parts_on, read_on, view_read}, specs.Blocks.BufferEffects.{contents_of, effects_in}};
     ghost use Rattle.layer_traits.specs.{Blocks.{BufferProtocol.buffer_monitor_rules, QueueBlocks.inner}, Layers.{Conditions.cv_rules, QLockLaw.lock_kernel}};
     ghost use Rattle.layer_traits.specs.{Layers.{QLocking.{wait_list_in, owner_in}, Queues.{buffer_sections, moves_in}}, Threads.Places.pending_by};
-    ghost use Rattle.fifo_buffer.specs.Laws.OwnedLaws.{block_there, closed_read, effects_known, items_acted, items_read, wait_lists_read, owner_read};
-    ghost use Rattle.fifo_buffer.specs.OwnedLaws.{closed_of, items_in, wait_lists_of, buffer_lock_of, lock_owner_of};
+    ghost use Rattle.fifo_buffer.specs.Laws.OwnedLaws.{block_there, buffer_read, effects_known, items_acted};
+    ghost use Rattle.{fifo_buffer.specs.OwnedLaws.buffer_lock_of, layer_traits.specs.Views.Owned.shows};
 
     ghost owner = { λ m b. owner_in (buffer_lock_of (C.opening m) (C.history m) b) };
 
-    ghost items_at = { λ m b. option_map items_in (C.block_at m b) };
+    ghost buffer_at = { λ m b. option_map buffer_shown (C.block_at m b) };
 
-    ghost items_with = { λ p b. option_map items_in (C.block_with p.lower b) };
-
-    ghost closed_at = { λ m b. option_map closed_of (C.block_at m b) };
-
-    ghost closed_with = { λ p b. option_map closed_of (C.block_with p.lower b) };
-
-    ghost owner_at = { λ m b. option_map lock_owner_of (C.block_at m b) };
-
-    ghost owner_with = { λ p b. option_map lock_owner_of (C.block_with p.lower b) };
-
-    ghost wait_lists_at = { λ m b. option_map wait_lists_of (C.block_at m b) };
-
-    ghost wait_lists_with = { λ p b. option_map wait_lists_of (C.block_with p.lower b) };
+    ghost buffer_with = { λ p b. option_map buffer_shown (C.block_with p.lower b) };
 
     ghost queue_at = { λ m d. C.queue_at m d };
 
     ghost queue_with = { λ p d. C.queue_with p.lower d };
 
-    fn items_in(m: &C::Machine, b: BufId) -> Option<ArrayVec<Msg, CAPACITY>> {
-        Some(C::block_in(m, b)?.items())
+    fn buffer_in(m: &C::Machine, b: BufId) -> Option<BufferView<'_>> {
+        Some(buffer_view(C::block_in(m, b)?))
     }
 
-    fn items_here(&self, b: BufId) -> Option<ArrayVec<Msg, CAPACITY>> {
-        Some(self.lower.block_here(b)?.items())
-    }
-
-    fn closed_in(m: &C::Machine, b: BufId) -> Option<bool> {
-        Some(C::block_in(m, b)?.is_closed())
-    }
-
-    fn closed_here(&self, b: BufId) -> Option<bool> {
-        Some(self.lower.block_here(b)?.is_closed())
-    }
-
-    #[inline(always)]
-    fn owner_in(m: &C::Machine, b: BufId) -> Option<Option<Tid>> {
-        C::owner_in(m, b)
-    }
-
-    #[inline(always)]
-    fn owner_here(&self, b: BufId) -> Option<Option<Tid>> {
-        self.lower.owner_here(b)
-    }
-
-    #[inline(always)]
-    fn wait_list_in(m: &C::Machine, b: BufId, t: Tid) -> Option<WaitList> {
-        C::wait_list_in(m, b, t)
-    }
-
-    #[inline(always)]
-    fn wait_list_here(&self, b: BufId, t: Tid) -> Option<WaitList> {
-        self.lower.wait_list_here(b, t)
+    fn buffer_here(&self, b: BufId) -> Option<BufferView<'_>> {
+        Some(buffer_view(self.lower.block_here(b)?))
     }
 
     #[inline(always)]
@@ -393,24 +366,13 @@ impl<C: OwnedThreadLayer<CvLaw<BufferEdit>>> OwnedBuffers for Fifo<C> {
 
     ghost known = { λ m c acts. effects_known (inner (C.opening m)) (C.history m) (C.known m c acts.0) };
 
-    ghost items = { λ m c b acts within. view_read
+    ghost shown = { λ m c b acts within. view_read
         (parts_on (λ (p : Self). p.lower) (λ p. C.Coupled p m) (λ (p : Self). Self.Coupled p m) (λ p. C.cpu_of p) (C.MayHold m) (λ p coupled. coupled.0))
-        items_in (buffer_lock_of (C.opening m) (C.history m) b) (λ p. C.block_with p b) (C.block_at m b)
-        (items_of (contents_of (caps_in (C.opening m)) (effects_in (inner (C.opening m)) (buffer_sections (C.history m)))) b.0)
-        (items_read (C.opening m) acts.1 b within (C.history m) (C.lawful m c acts.0))
-        (C.shown m c b acts.0 (block_there (C.opening m) acts.1 b within)) };
-
-    ghost closed = { λ m c b acts within. view_read
-        (parts_on (λ (p : Self). p.lower) (λ p. C.Coupled p m) (λ (p : Self). Self.Coupled p m) (λ p. C.cpu_of p) (C.MayHold m) (λ p coupled. coupled.0))
-        closed_of (buffer_lock_of (C.opening m) (C.history m) b) (λ p. C.block_with p b) (C.block_at m b)
+        buffer_shown (buffer_lock_of (C.opening m) (C.history m) b) (λ p. C.block_with p b) (C.block_at m b)
+        (shows (items_of (contents_of (caps_in (C.opening m)) (effects_in (inner (C.opening m)) (buffer_sections (C.history m)))) b.0)
         (is_closed (effects_in (inner (C.opening m)) (buffer_sections (C.history m))) b.0)
-        (closed_read (C.opening m) acts.1 b within (C.history m) (C.lawful m c acts.0))
-        (C.shown m c b acts.0 (block_there (C.opening m) acts.1 b within)) };
-
-    ghost owners = { λ m c b acts within. view_read
-        (parts_on (λ (p : Self). p.lower) (λ p. C.Coupled p m) (λ (p : Self). Self.Coupled p m) (λ p. C.cpu_of p) (C.MayHold m) (λ p coupled. coupled.0))
-        lock_owner_of (buffer_lock_of (C.opening m) (C.history m) b) (λ p. C.block_with p b) (C.block_at m b)
-        (owner_in (buffer_lock_of (C.opening m) (C.history m) b)) (owner_read (C.opening m) acts.1 b within (C.history m))
+        (owner_in (buffer_lock_of (C.opening m) (C.history m) b)) (λ line. wait_list_in line (buffer_lock_of (C.opening m) (C.history m) b)))
+        (buffer_read (C.opening m) acts.1 b within (C.history m) (C.lawful m c acts.0))
         (C.shown m c b acts.0 (block_there (C.opening m) acts.1 b within)) };
 
     ghost owner_is = { λ step m c b acts. owner_by_acts (C.opening m) (C.acts m) (C.opens m c acts.0) (C.proper step m c acts.0) (C.history m)
@@ -418,12 +380,6 @@ impl<C: OwnedThreadLayer<CvLaw<BufferEdit>>> OwnedBuffers for Fifo<C> {
 
     ghost items_are = { λ step m c b acts within. items_acted (C.opening m) acts.1 b within (C.history m) (C.acts m) (C.opens m c acts.0)
         (C.proper step m c acts.0) (C.seen_is step m) (C.lawful m c acts.0) };
-
-    ghost waiters_law = { λ m c b acts within. view_read
-        (parts_on (λ (p : Self). p.lower) (λ p. C.Coupled p m) (λ (p : Self). Self.Coupled p m) (λ p. C.cpu_of p) (C.MayHold m) (λ p coupled. coupled.0))
-        wait_lists_of (buffer_lock_of (C.opening m) (C.history m) b) (λ p. C.block_with p b) (C.block_at m b)
-        (λ line. wait_list_in line (buffer_lock_of (C.opening m) (C.history m) b)) (wait_lists_read (C.opening m) acts.1 b within (C.history m))
-        (C.shown m c b acts.0 (block_there (C.opening m) acts.1 b within)) };
 
     ghost queues = { λ m c d acts there. read_on
         (parts_on (λ (p : Self). p.lower) (λ p. C.Coupled p m) (λ (p : Self). Self.Coupled p m) (λ p. C.cpu_of p) (C.MayHold m) (λ p coupled. coupled.0))

@@ -3,17 +3,16 @@
 ghost use Rattle.std.specs.Prelude.{◌≡◌, ◌<◌, [], slice_set};
 ghost use Rattle.layer_traits.specs.{Blocks.Capacities.caps_in, Layers.BufferLaw.{answer_in, call_state_of, going}};
 ghost use Rattle.{event_log.specs.declared.ids.TheConstants.THREADS, fifo_buffer.specs.SectionPolls.calling_after};
-ghost use Rattle.fifo_buffer.specs.MonitorParts.{monitor_recorded_if, monitor_reply};
+ghost use Rattle.fifo_buffer.specs.{MonitorOwned.buffer_of_monitor, MonitorParts.{monitor_recorded_if, monitor_reply}};
 
 use crate::call_state_table::CallStates;
-use crate::monitor_blocks::{MonitorEdit, MonitorReply};
+use crate::monitor_blocks::{MonitorBlock, MonitorEdit, MonitorReply};
 use crate::monitor_calls::{monitor_section, record_out, reply_after};
 use crate::sections::begin;
-use arrayvec::ArrayVec;
-use event_log::{BufId, CAPACITY, CpuId, Msg, Tid};
+use event_log::{BufId, CpuId, Tid};
 use layer_traits::{
-    BufferCall, BufferLaw, Call, CallLayer, Effect, Ghost, Outcome, OwnThreads, OwnedBuffers,
-    OwnedThreadLayer, Pass, Payload, ReplyKind, SleepLaw, ThreadLayer, WaitList,
+    BufferCall, BufferLaw, BufferView, Call, CallLayer, Effect, Ghost, LockView, Outcome,
+    OwnThreads, OwnedBuffers, OwnedThreadLayer, Pass, Payload, ReplyKind, SleepLaw, ThreadLayer,
 };
 
 /// One CPU's part of first-in first-out blocking bounded buffers under monitors, over a part `S` of
@@ -194,70 +193,48 @@ impl<S: ThreadLayer<SleepLaw<MonitorEdit>>> CallLayer<BufferLaw> for Monitor<S> 
     ghost opens = { λ step m homes c fresh. absurd step };
 }
 
+/// Returns what the buffer of a lock's block shows.
+///
+/// The lock of a monitor has no owner beside the CPU that holds it. A thread that owes a wake-up is
+/// between two sections of one call: while there is none, no call is.
+fn monitor_view(view: LockView<'_, MonitorBlock>) -> BufferView<'_>
+    ensures { result ≡ buffer_of_monitor view.entry }
+{
+    BufferView {
+        items: view.above.items(),
+        closed: view.above.is_closed(),
+        owner: view.above.debtor(),
+        sleepers: view.sleepers,
+        receivers: view.receivers,
+        senders: view.senders,
+    }
+}
+
 impl<S: OwnedThreadLayer<SleepLaw<MonitorEdit>>> OwnedBuffers for Monitor<S> {
     ghost use Rattle.{std.specs.Prelude.option_map, event_log.specs.{declared.ids.LockId.TheVariants.{Buffer, Pending}, Buffers.items_of, Runs.is_closed}};
     ghost use Rattle.layer_traits.specs.{Blocks.{BufferEffects.contents_of, QueueBlocks.inner}, Threads.Places.pending_by};
     ghost use Rattle.layer_traits.specs.{Layers.{Queues.{buffer_sections, moves_in}, SleepLaw.sleep_kernel}, Views.Renaming.{viewed, viewed_block}};
     ghost use Rattle.{layer_traits.proofs.OwnedLemmas.{parts_on, read_on, view_read}, fifo_buffer.specs.Monitors.monitor_rules};
     ghost use Rattle.fifo_buffer.specs.{MonitorHistories.{monitor_after, monitor_entries, monitor_lists}, MonitorParts.monitor_shown};
-    ghost use Rattle.fifo_buffer.specs.MonitorOwned.{debtor_in, monitor_closed, monitor_debtor, monitor_items, monitor_lists_of};
-    ghost use Rattle.fifo_buffer.specs.Laws.MonitorOwned.{block_viewed_there, monitor_closed_read, monitor_debtor_read, monitor_entries_known};
-    ghost use Rattle.fifo_buffer.specs.Laws.MonitorOwned.{monitor_items_read, monitor_lists_read, monitor_there};
+    ghost use Rattle.{fifo_buffer.specs.MonitorOwned.{debtor_in, monitor_buffer}, layer_traits.specs.Views.Owned.shows};
+    ghost use Rattle.fifo_buffer.specs.Laws.MonitorOwned.{block_viewed_there, monitor_entries_known, monitor_read, monitor_there};
 
     ghost owner = { λ m b. debtor_in (monitor_after (inner (S.opening m)) (Buffer b) (buffer_sections (S.history m))) };
 
-    ghost items_at = { λ m b. option_map monitor_items (S.block_at m b) };
+    ghost buffer_at = { λ m b. option_map monitor_buffer (S.block_at m b) };
 
-    ghost items_with = { λ p b. option_map monitor_items (S.block_with p.lower b) };
-
-    ghost closed_at = { λ m b. option_map monitor_closed (S.block_at m b) };
-
-    ghost closed_with = { λ p b. option_map monitor_closed (S.block_with p.lower b) };
-
-    ghost owner_at = { λ m b. option_map monitor_debtor (S.block_at m b) };
-
-    ghost owner_with = { λ p b. option_map monitor_debtor (S.block_with p.lower b) };
-
-    ghost wait_lists_at = { λ m b. option_map monitor_lists_of (S.block_at m b) };
-
-    ghost wait_lists_with = { λ p b. option_map monitor_lists_of (S.block_with p.lower b) };
+    ghost buffer_with = { λ p b. option_map monitor_buffer (S.block_with p.lower b) };
 
     ghost queue_at = { λ m d. S.queue_at m d };
 
     ghost queue_with = { λ p d. S.queue_with p.lower d };
 
-    fn items_in(m: &S::Machine, b: BufId) -> Option<ArrayVec<Msg, CAPACITY>> {
-        Some(S::block_in(m, b)?.items())
+    fn buffer_in(m: &S::Machine, b: BufId) -> Option<BufferView<'_>> {
+        Some(monitor_view(S::block_in(m, b)?))
     }
 
-    fn items_here(&self, b: BufId) -> Option<ArrayVec<Msg, CAPACITY>> {
-        Some(self.lower.block_here(b)?.items())
-    }
-
-    fn closed_in(m: &S::Machine, b: BufId) -> Option<bool> {
-        Some(S::block_in(m, b)?.is_closed())
-    }
-
-    fn closed_here(&self, b: BufId) -> Option<bool> {
-        Some(self.lower.block_here(b)?.is_closed())
-    }
-
-    // The lock of a monitor has no owner beside the CPU that holds it. A thread that owes a wake-up
-    // is between two sections of one call: while there is none, no call is.
-    fn owner_in(m: &S::Machine, b: BufId) -> Option<Option<Tid>> {
-        Some(S::block_in(m, b)?.debtor())
-    }
-
-    fn owner_here(&self, b: BufId) -> Option<Option<Tid>> {
-        Some(self.lower.block_here(b)?.debtor())
-    }
-
-    fn wait_list_in(m: &S::Machine, b: BufId, t: Tid) -> Option<WaitList> {
-        S::wait_list_in(m, b, t)
-    }
-
-    fn wait_list_here(&self, b: BufId, t: Tid) -> Option<WaitList> {
-        self.lower.wait_list_here(b, t)
+    fn buffer_here(&self, b: BufId) -> Option<BufferView<'_>> {
+        Some(monitor_view(self.lower.block_here(b)?))
     }
 
     fn pends_in(m: &S::Machine, d: CpuId, t: Tid) -> Option<bool> {
@@ -270,37 +247,20 @@ impl<S: OwnedThreadLayer<SleepLaw<MonitorEdit>>> OwnedBuffers for Monitor<S> {
 
     ghost known = { λ m c acts. monitor_entries_known (inner (S.opening m)) (S.history m) (S.known m c acts.0) };
 
-    ghost items = { λ m c b acts within. view_read
+    ghost shown = { λ m c b acts within. view_read
         (parts_on (λ (p : Self). p.lower) (λ p. S.Coupled p m) (λ (p : Self). Self.Coupled p m) (λ p. S.cpu_of p) (S.MayHold m) (λ p coupled. coupled.0))
-        monitor_items (monitor_after (inner (S.opening m)) (Buffer b) (buffer_sections (S.history m))) (λ p. S.block_with p b) (S.block_at m b)
-        (items_of (contents_of (caps_in (viewed monitor_shown (S.opening m))) (monitor_entries (inner (S.opening m)) (buffer_sections (S.history m)))) b.0)
-        (monitor_items_read (S.opening m) acts.1 b within (buffer_sections (S.history m)))
-        (S.shown m c b acts.0 (monitor_there (S.opening m) acts.1 b within)) };
-
-    ghost closed = { λ m c b acts within. view_read
-        (parts_on (λ (p : Self). p.lower) (λ p. S.Coupled p m) (λ (p : Self). Self.Coupled p m) (λ p. S.cpu_of p) (S.MayHold m) (λ p coupled. coupled.0))
-        monitor_closed (monitor_after (inner (S.opening m)) (Buffer b) (buffer_sections (S.history m))) (λ p. S.block_with p b) (S.block_at m b)
+        monitor_buffer (monitor_after (inner (S.opening m)) (Buffer b) (buffer_sections (S.history m))) (λ p. S.block_with p b) (S.block_at m b)
+        (shows (items_of (contents_of (caps_in (viewed monitor_shown (S.opening m)))
+        (monitor_entries (inner (S.opening m)) (buffer_sections (S.history m)))) b.0)
         (is_closed (monitor_entries (inner (S.opening m)) (buffer_sections (S.history m))) b.0)
-        (monitor_closed_read (S.opening m) acts.1 b within (buffer_sections (S.history m)))
-        (S.shown m c b acts.0 (monitor_there (S.opening m) acts.1 b within)) };
-
-    ghost owners = { λ m c b acts within. view_read
-        (parts_on (λ (p : Self). p.lower) (λ p. S.Coupled p m) (λ (p : Self). Self.Coupled p m) (λ p. S.cpu_of p) (S.MayHold m) (λ p coupled. coupled.0))
-        monitor_debtor (monitor_after (inner (S.opening m)) (Buffer b) (buffer_sections (S.history m))) (λ p. S.block_with p b) (S.block_at m b)
         (debtor_in (monitor_after (inner (S.opening m)) (Buffer b) (buffer_sections (S.history m))))
-        (monitor_debtor_read (S.opening m) acts.1 b within (buffer_sections (S.history m)))
+        (monitor_lists (inner (S.opening m)) (buffer_sections (S.history m)) b))
+        (monitor_read (S.opening m) acts.1 b within (buffer_sections (S.history m)))
         (S.shown m c b acts.0 (monitor_there (S.opening m) acts.1 b within)) };
 
     ghost owner_is = { λ step m c b acts. absurd step };
 
     ghost items_are = { λ step m c b acts within. absurd step };
-
-    ghost waiters_law = { λ m c b acts within. view_read
-        (parts_on (λ (p : Self). p.lower) (λ p. S.Coupled p m) (λ (p : Self). Self.Coupled p m) (λ p. S.cpu_of p) (S.MayHold m) (λ p coupled. coupled.0))
-        monitor_lists_of (monitor_after (inner (S.opening m)) (Buffer b) (buffer_sections (S.history m))) (λ p. S.block_with p b) (S.block_at m b)
-        (λ line. monitor_lists (inner (S.opening m)) (buffer_sections (S.history m)) b line)
-        (monitor_lists_read (S.opening m) acts.1 b within (buffer_sections (S.history m)))
-        (S.shown m c b acts.0 (monitor_there (S.opening m) acts.1 b within)) };
 
     ghost queues = { λ m c d acts there. read_on
         (parts_on (λ (p : Self). p.lower) (λ p. S.Coupled p m) (λ (p : Self). Self.Coupled p m) (λ p. S.cpu_of p) (S.MayHold m) (λ p coupled. coupled.0))

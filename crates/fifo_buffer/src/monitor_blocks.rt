@@ -7,7 +7,6 @@ ghost use Rattle.fifo_buffer.specs.{declared.monitor_blocks.MonitorAsk.TheVarian
 ghost use Rattle.fifo_buffer.specs.Monitors.{empty_monitor, front_woken, goes_now, is_at_head, is_owed, is_owed_by, leaving_of, monitor_edited_by};
 ghost use Rattle.fifo_buffer.specs.Monitors.{monitor_effect, monitor_told_by, owed_after, owed_by, owed_next, owing, receive_effect, received, waiting_at};
 
-use arrayvec::ArrayVec;
 use event_log::{CAPACITY, Kind, Msg, Ring, THREADS, Tid};
 use layer_traits::{Effect, MessageSlot, Side, Sleeps, WaitList, Wake};
 use std::marker::Model;
@@ -146,10 +145,10 @@ impl MonitorBlock {
     }
 
     /// Returns the items, front first.
-    pub fn items(&self) -> ArrayVec<Msg, CAPACITY>
-        ensures { result.items ≡ self.now.items }
+    pub fn items(&self) -> &Ring<Msg>
+        ensures { result.now ≡ self.now.items }
     {
-        self.items.items()
+        &self.items
     }
 
     /// Returns whether the buffer is closed.

@@ -84,7 +84,7 @@ fn kind_by(call: &Call, kind: Kind) -> ReplyKind
 }
 
 /// Returns the section of a call at a stage. If the section puts a message (that of a send that
-/// tries), stores the message in the parcel.
+/// tries), stores the message in the message slot.
 #[inline(always)]
 pub fn section(
     t: Tid,
@@ -119,7 +119,7 @@ pub fn begin(call_state: &mut CallState, call: &Call)
 }
 
 /// Records the result of a section that entered a line or closed the buffer: the thread's position,
-/// or the effect of the close. The numbers are in the parcel.
+/// or the effect of the close. The numbers are in the message slot.
 fn record_entry(
     call_state: &mut CallState,
     out: &QLockReply<CvReply<BareBufferReply>>,
@@ -150,8 +150,8 @@ fn record_entry(
     }
 }
 
-/// Records the result of a try: its effect, with the message and the number that are in the parcel,
-/// or that the thread must wait.
+/// Records the result of a try: its effect, with the message and the number that are in the message
+/// slot, or that the thread must wait.
 fn record_try(
     call_state: &mut CallState,
     out: &QLockReply<CvReply<BareBufferReply>>,
@@ -177,8 +177,8 @@ fn record_try(
     }
 }
 
-/// Records the result of the section of this stage, with the parcel that the result brought. The
-/// call state is then at the next stage.
+/// Records the result of the section of this stage, with the message slot that the result brought.
+/// The call state is then at the next stage.
 #[inline(always)]
 pub fn record_section(
     call_state: &mut CallState,

@@ -2,7 +2,7 @@
 use Rattle.std.proofs.{Common.{◌≡◌, ℕ, ◌+◌, ◌<◌, ◌≤◌, Bool, true, List, [], Option, Some, None, length, refl, ap, arith}, lemmas.Bool.{le-ltb, lt-ltb}}
 use Rattle.layer_traits.specs.{Blocks.{Capacities.caps_in, QueueBlocks.homes_in}, declared.{call_layers.CallLayer.Ghosts, calls.{Call.Call, Reply.Reply}}}
 use Rattle.layer_traits.specs.{declared.calls.ReplyKind.{ReplyKind, TheVariants.NoBuffer as Refuses}, Layers.BufferLaw.{BufferPlan, Buffering, buffer_of}}
-use Rattle.layer_traits.specs.{Layers.{BufferLaw.fifo_plan, IpcLaw.ipc_plan}, Polling.{Framed.Framed, LayerPolls.{IsBegunAt, LookedAt, LookedOnAt, PolledAt}}}
+use Rattle.layer_traits.specs.{Layers.{BufferLaw.fifo_plan, IpcLaw.ipc_plan}, Polling.{Framed.Framed, LayerPolls.{LookedAt, LookedOnAt, PolledAt}}}
 use Rattle.layer_traits.{specs.Polling.{LayerPolls.PolledOnAt, PollRuns.{LookedOn, once, again, looks}}, proofs.PollRunLemmas.{Kept, run_kept}}
 use Rattle.{event_log.specs.declared.ids.{CpuId.CpuId, Tid.Tid}, ipc_calls.specs.{declared.ipc.Ipc.Ipc, Parts.KeepsPlan}}
 

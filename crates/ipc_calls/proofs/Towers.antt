@@ -1,30 +1,59 @@
--- The locks of the tower at boot, as its layers read them.
-use Rattle.std.proofs.{Common.{◌≡◌, ℕ, List, map, Option, Some, None, option_map, slice_get, refl, ap, ◌∙◌}, lemmas.Option.slice_get-map}
-use Rattle.{event_log.specs.declared.ids.{BufId.BufId, LockId.{LockId, TheVariants.Buffer}}, fifo_buffer.proofs.Opening.{boots_at, resting}}
-use Rattle.layer_traits.specs.{declared.queue_edits.QueueBlock.QueueBlock, Blocks.{BufferBlocks.{BufferState, empty_block}, BufferEffects.opening_locks}}
-use Rattle.layer_traits.{specs.{Blocks.QueueBlocks.{StartsWell, inner}, Views.Renaming.viewed}, proofs.KernelRenaming.{inner_viewed, starts_viewed}}
+-- The locks of a tower at boot, as its layers read them.
+use Rattle.std.proofs.{Common.{◌≡◌, ℕ, ◌≤◌, List, length, map, Option, option_map, slice_get, refl, ap, sym, ◌∙◌, arith}, Math.Path.fun_ext}
+use Rattle.std.proofs.lemmas.Option.{slice_get-map}
+use Rattle.{event_log.specs.declared.ids.{BufId.BufId, LockId.{LockId, TheVariants.{Buffer, Pending}}}, fifo_buffer.specs.MonitorHistories.MonitorLocked}
+use Rattle.fifo_buffer.{specs.{MonitorHistories.fresh_monitors, MonitorParts.{OpensFresh, monitor_shown}, Monitors.empty_monitor}, proofs.Opening.caps_are}
+use Rattle.{ipc_calls.specs.Openings.locks_at_boot, layer_traits.specs.{declared.queue_edits.QueueBlock.QueueBlock, Blocks.BufferBlocks.BufferState}}
+use Rattle.layer_traits.specs.Blocks.{BufferBlocks.empty_block, BufferEffects.opening_locks, Capacities.caps_in, QueueBlocks.{StartsWell, inner}}
+use Rattle.layer_traits.{specs.{Views.Renaming.viewed, Layers.Sleeping.SleepState}, proofs.KernelRenaming.inner_viewed}
 use Rattle.queuing_lock.specs.{declared.edits.QLockBlock.QLockBlock, Nested.{nested_lock_of, unowned}}
-use Rattle.sleep_wakeup.specs.{declared.edits.SleepBlock.SleepBlock, Nested.state_of}
-use Rattle.sleep_wakeup.specs.Nested as nested
+use Rattle.sleep_wakeup.specs.{declared.edits.SleepBlock.SleepBlock, Nested.{resting, state_of}}
 
-module _ (opening : LockId → Option (QueueBlock (SleepBlock (QLockBlock BufferState)))) (caps : List ℕ) (buffers : List BufferState)
-    (locks : List (QLockBlock BufferState)) (blocks : List (SleepBlock (QLockBlock BufferState)))
-    (starts : StartsWell opening) (buffers_are : buffers ≡ map empty_block caps) (locks_are : locks ≡ map unowned buffers)
-    (blocks_are : blocks ≡ map nested.resting locks) (at : (b : BufId) → inner opening (Buffer b) ≡ slice_get blocks b.0) where
-  made : (o : Option BufferState) → option_map nested_lock_of (option_map state_of (option_map nested.resting (option_map unowned o))) ≡ option_map resting o
-  made None = refl
-  made (Some block) = refl
+-- the locks whose blocks were made for these capacities
+module _ {B : Type 0} (opening : LockId → Option (QueueBlock (SleepBlock B))) (caps : List ℕ) (block : ℕ → B) (blocks : List B)
+    (made : List (SleepBlock B)) (starts : StartsWell opening) (blocks_are : blocks ≡ map block caps) (made_are : made ≡ map resting blocks)
+    (at : (b : BufId) → inner opening (Buffer b) ≡ slice_get made b.0) where
+  made_at : (lock : LockId) → inner (viewed state_of opening) lock ≡ locks_at_boot block caps lock
+  made_at lock = let kind = starts.kinds lock in grind (arith, inner_viewed, slice_get-map)
 
-  -- a buffer's lock has its block at rest
-  at_rest : (b : BufId) → inner (viewed nested_lock_of (viewed state_of opening)) (Buffer b) ≡ option_map resting (slice_get buffers b.0)
-  at_rest b =
-      let stands : inner opening (Buffer b) ≡ option_map nested.resting (option_map unowned (slice_get buffers b.0))
-      = at b ∙ ap (λ l. slice_get l b.0) (blocks_are ∙ ap (map nested.resting) locks_are)
-      ∙ slice_get-map nested.resting (map unowned buffers) b.0 ∙ ap (option_map nested.resting) (slice_get-map unowned buffers b.0) in
-      inner_viewed nested_lock_of (viewed state_of opening) (Buffer b) ∙ ap (option_map nested_lock_of) (inner_viewed state_of opening (Buffer b))
-      ∙ ap (λ o. option_map nested_lock_of (option_map state_of o)) stands ∙ made (slice_get buffers b.0)
+  pub opened_as_made : inner (viewed state_of opening) ≡ locks_at_boot block caps
+  opened_as_made = fun_ext made_at
 
-  -- the locks of buffers open as they must
-  pub tower_locks : inner (viewed nested_lock_of (viewed state_of opening)) ≡ opening_locks caps
-  tower_locks = boots_at (viewed nested_lock_of (viewed state_of opening)) caps buffers
-      (starts_viewed nested_lock_of (viewed state_of opening) (starts_viewed state_of opening starts)).kinds at_rest buffers_are
+-- the locks of queuing locks, as the layers above them read them
+module _ (opening : LockId → Option (QueueBlock (SleepState (QLockBlock BufferState)))) (caps : List ℕ)
+    (boots : inner opening ≡ locks_at_boot (λ n. unowned (empty_block n)) caps) where
+  unowned_at : (lock : LockId) → option_map nested_lock_of (locks_at_boot (λ n. unowned (empty_block n)) caps lock) ≡ opening_locks caps lock
+  unowned_at lock = grind arith
+
+  at_lock : (lock : LockId) → inner (viewed nested_lock_of opening) lock ≡ opening_locks caps lock
+  at_lock lock = inner_viewed nested_lock_of opening lock ∙ ap (λ locks. option_map nested_lock_of (locks lock)) boots ∙ unowned_at lock
+
+  pub tower_locks : inner (viewed nested_lock_of opening) ≡ opening_locks caps
+  tower_locks = fun_ext at_lock
+
+-- monitors at boot are fresh
+fresh_at : (caps : List ℕ) (lock : LockId) → locks_at_boot empty_monitor caps lock ≡ fresh_monitors caps lock
+fresh_at caps (Pending c) = refl
+fresh_at caps (Buffer b) = refl
+
+pub monitors_at_boot : (caps : List ℕ) → locks_at_boot empty_monitor caps ≡ fresh_monitors caps
+monitors_at_boot caps = fun_ext (fresh_at caps)
+
+-- and a machine that opened with them has their capacities
+module _ (opening : LockId → Option (QueueBlock MonitorLocked)) (caps : List ℕ) (fresh : inner opening ≡ fresh_monitors caps)
+    (few : length caps ≤ 256) where
+  shown_fresh : (lock : LockId) → option_map monitor_shown (fresh_monitors caps lock) ≡ opening_locks caps lock
+  shown_fresh lock = grind arith
+
+  shown_at : (lock : LockId) → inner (viewed monitor_shown opening) lock ≡ opening_locks caps lock
+  shown_at lock = inner_viewed monitor_shown opening lock ∙ ap (λ locks. option_map monitor_shown (locks lock)) fresh ∙ shown_fresh lock
+
+  pub monitor_caps : caps_in (viewed monitor_shown opening) ≡ caps
+  monitor_caps = caps_are (viewed monitor_shown opening) caps (fun_ext shown_at) few
+
+  pub opens_fresh : OpensFresh opening
+  opens_fresh = fresh ∙ ap fresh_monitors (sym monitor_caps)
+
+  -- it shows the locks of empty buffers
+  pub boots_shown : inner (viewed monitor_shown opening) ≡ opening_locks (caps_in (viewed monitor_shown opening))
+  boots_shown = fun_ext shown_at ∙ ap opening_locks (sym monitor_caps)

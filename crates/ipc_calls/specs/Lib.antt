@@ -1,3 +1,4 @@
+pub mod Openings
 pub mod Parts
 pub mod PlaceLaws
 pub mod Laws

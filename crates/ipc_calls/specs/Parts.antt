@@ -4,7 +4,8 @@ use Rattle.std.specs.{Prelude.option_and_then, Option.option_or}
 use Rattle.event_log.specs.declared.ids.{BufId.BufId, CpuId.CpuId, Tid.Tid}
 use Rattle.layer_traits.specs.declared.{calls.Place.Place, moves.WaitList.WaitList}
 use Rattle.layer_traits.specs.declared.moves.WaitList.TheVariants.{Sleepers, Receivers, Senders}
-use Rattle.layer_traits.specs.{Views.Owned.wait_list_among, Threads.Places.{Threads, is_thread}}
+use Rattle.layer_traits.specs.Views.Owned.{BufferShown, lists_shown, wait_list_among}
+use Rattle.layer_traits.specs.Threads.Places.{Threads, is_thread}
 use Rattle.thread_blocks.specs.Queues.{is_in}
 use Rattle.layer_traits.specs.declared.calls.Place.TheVariants as place
 
@@ -36,6 +37,11 @@ abbrev pub wait_list_read : Tid → Option (WaitList → List Tid) → Option (W
     → Option WaitList
 wait_list_read t home here =
     option_or (option_and_then (wait_list_among t) home) (option_and_then (wait_list_among t) here)
+
+-- the same of what the machine or the part reports that a buffer shows
+abbrev pub waits_read : Tid → Option BufferShown → Option BufferShown → Option WaitList
+waits_read t home here =
+    wait_list_read t (option_map lists_shown home) (option_map lists_shown here)
 
 -- the place of a thread that sleeps in this wait list of a buffer
 abbrev pub asleep_at : BufId → WaitList → Place

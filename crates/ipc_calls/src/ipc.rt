@@ -1,16 +1,17 @@
 //! Message calls over buffers: one CPU's part of the top layer.
 
-ghost use Rattle.std.specs.Prelude.{◌≡◌, ◌<◌, None, Some, IsSome, length, refl};
+ghost use Rattle.std.specs.Prelude.{◌≡◌, ◌<◌, None, Some, IsSome, length, option_and_then, option_map, refl};
 ghost use Rattle.layer_traits.specs.{Blocks.{Capacities.caps_in, QueueBlocks.homes_in}, declared.calls.Place.Place, Threads.Places.{home_of, is_thread}};
 ghost use Rattle.{layer_traits.specs.Views.{Observed.IsOwnPlace, OwnParts.threads_in}, event_log.specs.declared.ids.{CpuId.CpuId, LockId.TheVariants.Pending}};
-ghost use Rattle.{event_log.specs.declared.ids.{Tid.Tid, TheConstants.THREADS}, ipc_calls.specs.Parts.{IsAway, asleep_at, wait_list_read, pends_read, said}};
+ghost use Rattle.{event_log.specs.declared.ids.{Tid.Tid, TheConstants.THREADS}, ipc_calls.specs.Parts.{IsAway, asleep_at, waits_read, pends_read, said}};
+ghost use Rattle.layer_traits.specs.Views.Owned.{lists_shown, shows, wait_list_among};
 
 use crate::opening::OpensBuffers;
 use arrayvec::ArrayVec;
 use event_log::{BufId, CAPACITY, CpuId, Msg, NoMemory, THREADS, Tid};
 use layer_traits::{
-    BufferLaw, Call, CallLayer, Effect, IpcLaw, OwnThreads, Owned, OwnedBuffers, Pass, Place,
-    PollRun, ReplyKind, WaitList, kept_homes,
+    BufferLaw, BufferView, Call, CallLayer, Effect, IpcLaw, OwnThreads, Owned, OwnedBuffers, Pass,
+    Place, PollRun, ReplyKind, WaitList, kept_homes,
 };
 use std::alloc::Global;
 
@@ -43,6 +44,14 @@ fn waiters_of(buffer: BufId, wait_list: WaitList) -> Place
         WaitList::Receivers => Place::WaitRecv(buffer),
         WaitList::Senders => Place::WaitSend(buffer),
     }
+}
+
+/// Returns the waiting list of a buffer that has `t`; `None` if none has it, or nothing is
+/// reported of the buffer.
+fn wait_list_of(view: Option<BufferView<'_>>, t: Tid) -> Option<WaitList>
+    ensures { result ≡ option_and_then (wait_list_among t) (option_map lists_shown view.entry) }
+{
+    view?.wait_list(t)
 }
 
 /// One CPU's part of the layer of message calls, over a part `B` of buffers. It keeps the number of
@@ -236,12 +245,12 @@ impl<B: OwnedBuffers> Ipc<B> {
     fn wait_list(&self, m: &B::Machine, buffer: BufId, t: Tid) -> Option<WaitList>
         requires acts { (c : CpuId) × B.ActsFor m.now c }
         requires buffer { buffer.0 < length (caps_in (B.opening m.now)) }
-        ensures { result ≡ wait_list_read t (B.wait_lists_at m.now buffer)
-            (B.wait_lists_with self.now.lower buffer) }
+        ensures { result ≡ waits_read t (B.buffer_at m.now buffer)
+            (B.buffer_with self.now.lower buffer) }
     {
-        match B::wait_list_in(m, buffer, t) {
+        match wait_list_of(B::buffer_in(m, buffer), t) {
             Some(wait_list) => Some(wait_list),
-            None => self.lower.wait_list_here(buffer, t),
+            None => wait_list_of(self.lower.buffer_here(buffer), t),
         }
     }
 
@@ -252,10 +261,10 @@ impl<B: OwnedBuffers> Ipc<B> {
         requires count { length (caps_in (B.opening m.now)) ≡ self.now.buffers }
         ensures within { (x : _) → result ≡ Some x → x.0.0 < length (caps_in (B.opening m.now)) }
         ensures found { (x : _) → result ≡ Some x
-            → wait_list_read t (B.wait_lists_at m.now x.0) (B.wait_lists_with self.now.lower x.0)
+            → waits_read t (B.buffer_at m.now x.0) (B.buffer_with self.now.lower x.0)
             ≡ Some x.1 }
         ensures none { result ≡ None → (b : BufId) → b.0 < length (caps_in (B.opening m.now))
-            → wait_list_read t (B.wait_lists_at m.now b) (B.wait_lists_with self.now.lower b)
+            → waits_read t (B.buffer_at m.now b) (B.buffer_with self.now.lower b)
             ≡ None }
     {
         for number in 0..self.buffers {
@@ -269,26 +278,26 @@ impl<B: OwnedBuffers> Ipc<B> {
 }
 
 impl<B: OpensBuffers> Owned for Ipc<B> {
-    ghost use Rattle.{std.proofs.Common.{subst, sym}, event_log.specs.{Buffers.items_of, Runs.is_closed}, layer_traits.proofs.OwnedLemmas.read_under};
-    ghost use Rattle.{layer_traits.specs.{Blocks.BufferEffects.contents_of, Threads.Places.pending_by}, ipc_calls.specs.Laws.PlaceLaws.home_there};
-    ghost use Rattle.ipc_calls.specs.{Laws.PlaceLaws.place_reads, Parts.IsSilentOf};
+    ghost use Rattle.{std.proofs.Common.{subst, sym}, event_log.specs.{Buffers.items_of, Runs.is_closed}, layer_traits.proofs.OwnedLemmas.{lists_as, parts_on}};
+    ghost use Rattle.layer_traits.{proofs.OwnedLemmas.{read_under, seen_on}, specs.{Blocks.BufferEffects.contents_of, Threads.Places.pending_by}};
+    ghost use Rattle.ipc_calls.specs.{Laws.PlaceLaws.{home_there, place_reads}, Parts.IsSilentOf};
 
     ghost owner = { λ m b. B.owner m b };
 
-    ghost items_in = { λ m b. B.items_at m b };
+    ghost items_in = { λ m b. option_map (λ s. s.items) (B.buffer_at m b) };
 
-    ghost items_here = { λ p b. B.items_with p.lower b };
+    ghost items_here = { λ p b. option_map (λ s. s.items) (B.buffer_with p.lower b) };
 
-    ghost closed_in = { λ m b. B.closed_at m b };
+    ghost closed_in = { λ m b. option_map (λ s. s.closed) (B.buffer_at m b) };
 
-    ghost closed_here = { λ p b. B.closed_with p.lower b };
+    ghost closed_here = { λ p b. option_map (λ s. s.closed) (B.buffer_with p.lower b) };
 
-    ghost owner_in = { λ m b. B.owner_at m b };
+    ghost owner_in = { λ m b. option_map (λ s. s.owner) (B.buffer_at m b) };
 
-    ghost owner_here = { λ p b. B.owner_with p.lower b };
+    ghost owner_here = { λ p b. option_map (λ s. s.owner) (B.buffer_with p.lower b) };
 
     ghost IsSilent = { λ p m t. IsSilentOf t (threads_in (B.local p.lower)) (home_of (homes_in (B.opening m)) t) (length (caps_in (B.opening m)))
-        (B.queue_at m) (B.queue_with p.lower) (B.wait_lists_at m) (B.wait_lists_with p.lower) };
+        (B.queue_at m) (B.queue_with p.lower) (λ b. option_map lists_shown (B.buffer_at m b)) (λ b. option_map lists_shown (B.buffer_with p.lower b)) };
 
     fn open(
         alloc: Global,
@@ -301,27 +310,27 @@ impl<B: OpensBuffers> Owned for Ipc<B> {
     }
 
     fn buffer_in(m: &B::Machine, b: BufId) -> Option<ArrayVec<Msg, CAPACITY>> {
-        B::items_in(m, b)
+        Some(B::buffer_in(m, b)?.items.items())
     }
 
     fn buffer_here(&self, b: BufId) -> Option<ArrayVec<Msg, CAPACITY>> {
-        self.lower.items_here(b)
+        Some(self.lower.buffer_here(b)?.items.items())
     }
 
     fn closed_at_home(m: &B::Machine, b: BufId) -> Option<bool> {
-        B::closed_in(m, b)
+        Some(B::buffer_in(m, b)?.closed)
     }
 
     fn closed_in_hands(&self, b: BufId) -> Option<bool> {
-        self.lower.closed_here(b)
+        Some(self.lower.buffer_here(b)?.closed)
     }
 
     fn busy_in(m: &B::Machine, b: BufId) -> Option<Option<Tid>> {
-        B::owner_in(m, b)
+        Some(B::buffer_in(m, b)?.owner)
     }
 
     fn busy_here(&self, b: BufId) -> Option<Option<Tid>> {
-        self.lower.owner_here(b)
+        Some(self.lower.buffer_here(b)?.owner)
     }
 
     fn place_at(&self, m: &B::Machine, t: Tid) -> Option<Place> {
@@ -338,21 +347,23 @@ impl<B: OpensBuffers> Owned for Ipc<B> {
 
     ghost known = { B.known };
 
-    ghost items = { λ m c b acts within. read_under (λ (p : Self). p.lower) (λ p. B.Coupled p m) (λ (p : Self). Self.Coupled p m) (λ p. B.cpu_of p)
-        (λ (p : Self). B.cpu_of p.lower) (B.MayHold m)
-        (B.MayHold m) (λ p. B.items_with p b) (B.items_at m b)
-        (items_of (contents_of (caps_in (B.opening m)) (B.history m)) b.0) (λ p coupled. coupled.0) (λ p coupled. refl)
-        (λ d inside. inside) (B.items m c b acts within) };
+    ghost items = { λ m c b acts within. seen_on
+        (parts_on (λ (p : Self). p.lower) (λ p. B.Coupled p m) (λ (p : Self). Self.Coupled p m) (λ p. B.cpu_of p) (B.MayHold m) (λ p coupled. coupled.0))
+        (λ s. s.items) (λ p. B.buffer_with p b) (B.buffer_at m b)
+        (shows (items_of (contents_of (caps_in (B.opening m)) (B.history m)) b.0) (is_closed (B.history m) b.0) (B.owner m b) (B.wait_lists m b))
+        (B.shown m c b acts within) };
 
-    ghost closed = { λ m c b acts within. read_under (λ (p : Self). p.lower) (λ p. B.Coupled p m) (λ (p : Self). Self.Coupled p m) (λ p. B.cpu_of p)
-        (λ (p : Self). B.cpu_of p.lower) (B.MayHold m)
-        (B.MayHold m) (λ p. B.closed_with p b) (B.closed_at m b)
-        (is_closed (B.history m) b.0) (λ p coupled. coupled.0) (λ p coupled. refl) (λ d inside. inside) (B.closed m c b acts within) };
+    ghost closed = { λ m c b acts within. seen_on
+        (parts_on (λ (p : Self). p.lower) (λ p. B.Coupled p m) (λ (p : Self). Self.Coupled p m) (λ p. B.cpu_of p) (B.MayHold m) (λ p coupled. coupled.0))
+        (λ s. s.closed) (λ p. B.buffer_with p b) (B.buffer_at m b)
+        (shows (items_of (contents_of (caps_in (B.opening m)) (B.history m)) b.0) (is_closed (B.history m) b.0) (B.owner m b) (B.wait_lists m b))
+        (B.shown m c b acts within) };
 
-    ghost owners = { λ m c b acts within. read_under (λ (p : Self). p.lower) (λ p. B.Coupled p m) (λ (p : Self). Self.Coupled p m) (λ p. B.cpu_of p)
-        (λ (p : Self). B.cpu_of p.lower) (B.MayHold m)
-        (B.MayHold m) (λ p. B.owner_with p b) (B.owner_at m b)
-        (B.owner m b) (λ p coupled. coupled.0) (λ p coupled. refl) (λ d inside. inside) (B.owners m c b acts within) };
+    ghost owners = { λ m c b acts within. seen_on
+        (parts_on (λ (p : Self). p.lower) (λ p. B.Coupled p m) (λ (p : Self). Self.Coupled p m) (λ p. B.cpu_of p) (B.MayHold m) (λ p coupled. coupled.0))
+        (λ s. s.owner) (λ p. B.buffer_with p b) (B.buffer_at m b)
+        (shows (items_of (contents_of (caps_in (B.opening m)) (B.history m)) b.0) (is_closed (B.history m) b.0) (B.owner m b) (B.wait_lists m b))
+        (B.shown m c b acts within) };
 
     ghost owner_is = { B.owner_is };
 
@@ -373,8 +384,8 @@ impl<B: OpensBuffers> Owned for Ipc<B> {
           local = λ (q : Self). threads_in (B.local q.lower);
           queue_at = B.queue_at m;
           queue_with = λ (q : Self). B.queue_with q.lower;
-          wait_lists_at = B.wait_lists_at m;
-          wait_lists_with = λ (q : Self). B.wait_lists_with q.lower;
+          wait_lists_at = λ b. option_map lists_shown (B.buffer_at m b);
+          wait_lists_with = λ (q : Self) b. option_map lists_shown (B.buffer_with q.lower b);
           lawful = B.moves_legal m cpu acts;
           agree = B.lists p.lower m coupled.0;
           stands = λ q fit. B.stands q.lower m fit.0;
@@ -383,10 +394,14 @@ impl<B: OpensBuffers> Owned for Ipc<B> {
               (B.MayHold m) (λ q. B.queue_with q d) (B.queue_at m d)
               (pending_by (B.moves m) d) (λ q fit. fit.0) (λ q fit. refl) (λ d inside. inside)
               (B.queues m cpu d acts ((B.starts m cpu acts).queues u d at));
-          waiters_law = λ b within. read_under (λ (q : Self). q.lower) (λ q. B.Coupled q m) (λ (q : Self). Self.Coupled q m) (λ q. B.cpu_of q)
+          waiters_law = λ b within. lists_as (λ (q : Self). Self.Coupled q m) (λ (q : Self). B.cpu_of q.lower) (B.MayHold m)
+              (λ (q : Self). B.buffer_with q.lower b) (B.buffer_at m b) (items_of (contents_of (caps_in (B.opening m)) (B.history m)) b.0)
+              (is_closed (B.history m) b.0) (B.owner m b) (B.wait_lists m b)
+              (read_under (λ (q : Self). q.lower) (λ q. B.Coupled q m) (λ (q : Self). Self.Coupled q m) (λ q. B.cpu_of q)
               (λ (q : Self). B.cpu_of q.lower) (B.MayHold m)
-              (B.MayHold m) (λ q. B.wait_lists_with q b) (B.wait_lists_at m b)
-              (B.wait_lists m b) (λ q fit. fit.0) (λ q fit. refl) (λ d inside. inside) (B.waiters_law m cpu b acts within);
+              (B.MayHold m) (λ q. B.buffer_with q b) (B.buffer_at m b)
+              (shows (items_of (contents_of (caps_in (B.opening m)) (B.history m)) b.0) (is_closed (B.history m) b.0) (B.owner m b) (B.wait_lists m b))
+              (λ q fit. fit.0) (λ q fit. refl) (λ d inside. inside) (B.shown m cpu b acts within));
         }) t home.0 home.1 };
 
     ghost holding = { B.holding };

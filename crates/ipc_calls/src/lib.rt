@@ -11,13 +11,20 @@
 #![tactic(auto)]
 
 mod ipc;
+mod monitor_tower;
 mod opening;
 mod stepwise;
 mod tower;
 mod whole;
 
 pub use ipc::Ipc;
-pub use opening::{LockEdit, OpensBuffers, OpensLocks, OpensQueues, OpensScheds};
+pub use monitor_tower::{
+    MonitorLockLaws, MonitorOver, MonitorTowerBlock, MonitorTowerEdit, MonitorTowerLaws,
+    MonitorTowerRequest, monitor_blocks, monitor_part_over,
+};
+pub use opening::{
+    LockEdit, OpensBlocks, OpensBuffers, OpensLocks, OpensQueues, OpensScheds, opening_blocks,
+};
 pub use stepwise::{
     StepwiseBuffers, StepwiseLocks, StepwiseQueues, StepwiseScheds, StepwiseSections,
     tower_is_stepwise,

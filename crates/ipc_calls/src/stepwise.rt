@@ -25,7 +25,7 @@ impl<M: OwnedFifoLock<LockProtocol, Edit = TowerEdit>, LockProtocol> StepwiseSec
 }
 
 /// Shared queues of which each poll is one action.
-pub trait StepwiseQueues: OpensQueues {
+pub trait StepwiseQueues: OpensQueues<LockEdit> {
     /// Law: one poll is one action.
     ghost steps: { Self.IsStepwise };
 }
@@ -35,7 +35,7 @@ impl<L: StepwiseSections> StepwiseQueues for SharedQueues<L> {
 }
 
 /// Schedulers of which each poll is one action.
-pub trait StepwiseScheds: OpensScheds {
+pub trait StepwiseScheds: OpensScheds<LockEdit> {
     /// Law: one poll is one action.
     ghost steps: { Self.IsStepwise };
 }
@@ -45,7 +45,7 @@ impl<Q: StepwiseQueues> StepwiseScheds for Sched<Q> {
 }
 
 /// Sections that put threads to sleep, of which each poll is one action.
-pub trait StepwiseLocks: OpensLocks {
+pub trait StepwiseLocks: OpensLocks<LockEdit> {
     /// Law: one poll is one action.
     ghost steps: { Self.IsStepwise };
 }

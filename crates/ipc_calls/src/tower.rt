@@ -8,20 +8,20 @@ ghost use Rattle.layer_traits.specs.{Protocols.OneLock.{AreDistinct, opened}, Vi
 ghost use Rattle.{queuing_lock.specs.Nested.nested_lock_of, sleep_wakeup.specs.Nested.state_of};
 
 use crate::ipc::Ipc;
-use crate::opening::{LockEdit, OpensBuffers, OpensLocks, OpensQueues, OpensScheds};
+use crate::opening::{LockEdit, OpensBlocks, OpensBuffers, OpensLocks, opening_blocks};
 use condvar::Cond;
 use event_log::{CpuId, LockId, NoMemory};
 use fifo_buffer::{Fifo, empty_blocks};
 use layer_traits::{
     BareBufferEdit, BufferBlock, BufferEdit, BufferLaw, BufferReply, CallLayer, CvEdit, CvLaw,
-    CvLeave, CvReply, IpcLaw, Layer, LockLaw, LockStateOf, LockingOf, OwnThreads, OwnedLocks,
-    QLockLaw, QLockReply, QueueBlock, QueueEdit, QueueEvent, QueueLaw, SchedCall, SchedLaw,
-    SectionOf, SleepLaw, SleepStateOf, SleepingOf, WaitingOf,
+    CvLeave, CvReply, IpcLaw, Layer, LockLaw, LockStateOf, LockingOf, OwnThreads, QLockLaw,
+    QLockReply, QueueBlock, QueueEdit, QueueEvent, QueueLaw, SchedCall, SchedLaw, SectionOf,
+    SleepLaw, SleepStateOf, SleepingOf, WaitingOf,
 };
 use queuing_lock::{QLock, QLockBlock, QLockSection, lock_blocks};
 use scheduler::Sched;
-use shared_queue::{SharedQueues, queue_blocks};
-use sleep_wakeup::{SleepBlock, SleepEdit, Sleeper, sleep_blocks};
+use shared_queue::SharedQueues;
+use sleep_wakeup::{SleepBlock, SleepEdit, Sleeper};
 use std::alloc::Global;
 use std::marker::PhantomData;
 
@@ -90,9 +90,7 @@ pub fn tower_blocks(
         (λ locks. inner (viewed nested_lock_of (viewed state_of (opened locks.items)))
         ≡ opening_locks caps.now) }
 {
-    let buffers = empty_blocks(alloc, caps)?;
-    let blocks = sleep_blocks(alloc, lock_blocks(alloc, buffers)?)?;
-    queue_blocks(alloc, blocks, cpus, homes)
+    opening_blocks::<LockEdit>(alloc, cpus, caps, homes)
 }
 
 /// Returns the part of `cpu` at boot, over a machine in which nothing was done. The machine has the
@@ -129,44 +127,17 @@ pub fn part_over<L: Layer<LockLaw<TowerEdit>>>(
     Ipc::part(cpu, homes, caps.len() as u8)
 }
 
-// One impl for each layer, because the check of an impl over several layers exceeds its limit.
-impl<L: OwnedLocks<TowerEdit>> OpensQueues for SharedQueues<L> {
-    fn open(
-        alloc: Global,
-        cpus: u8,
-        caps: &[u8],
-        homes: &[CpuId],
-        room: usize,
-    ) -> Result<L::Machine, NoMemory> {
-        L::open(alloc, tower_blocks(alloc, cpus, caps, homes)?, room)
+impl OpensBlocks for QLockSection<CvEdit<BufferEdit>, CvLeave> {
+    ghost use Rattle.{std.specs.Prelude.ℕ, queuing_lock.specs.Nested.unowned, layer_traits.specs.Blocks.BufferBlocks.empty_block};
+
+    ghost at_boot = { λ capacity. unowned (empty_block capacity) };
+
+    fn blocks(alloc: Global, caps: &[u8]) -> Result<Vec<QLockBlock<BufferBlock>>, NoMemory> {
+        lock_blocks(alloc, empty_blocks(alloc, caps)?)
     }
 }
 
-impl<Q: OpensQueues> OpensScheds for Sched<Q> {
-    fn open(
-        alloc: Global,
-        cpus: u8,
-        caps: &[u8],
-        homes: &[CpuId],
-        room: usize,
-    ) -> Result<Q::Machine, NoMemory> {
-        Q::open(alloc, cpus, caps, homes, room)
-    }
-}
-
-impl<S: OpensScheds> OpensLocks for Sleeper<LockEdit, S> {
-    fn open(
-        alloc: Global,
-        cpus: u8,
-        caps: &[u8],
-        homes: &[CpuId],
-        room: usize,
-    ) -> Result<S::Machine, NoMemory> {
-        <S as OpensScheds>::open(alloc, cpus, caps, homes, room)
-    }
-}
-
-impl<S: OpensLocks> OpensBuffers for Fifo<Cond<QLock<S>>> {
+impl<S: OpensLocks<LockEdit>> OpensBuffers for Fifo<Cond<QLock<S>>> {
     fn open(
         alloc: Global,
         cpus: u8,

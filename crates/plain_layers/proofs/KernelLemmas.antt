@@ -165,20 +165,11 @@ module _ {B : Type 0} (start : Opening B) (lists : Lists B) (cpus : ℕ) (homes 
   pub homes_read : homes_in (opening_of start) ≡ homes
   homes_read = ap homes_of (queue_opens (record { 0 = 0 }) opens.are.some) ∙ opens.abstract_answer
 
-  abbrev nobody : List Tid
-  nobody = []
-
   each_empty : (i : ℕ) (queue : List Tid) → slice_get start.lists.value.pending.items i ≡ Some queue → queue ≡ []
   each_empty i queue is = grind (arith, length-replicate, slice_get_within, repeated)
 
-  abbrev queue_of : List Tid → QueueBlock B
-  queue_of queue = Queue queue start.homes
-
   kinds : (lock : LockId) → StartsAs lock (opening_of start lock)
   kinds lock = grind (arith, each_empty)
-
-  report_above : (o : Option B) → o ≡ above_of (option_map Above o)
-  report_above o = grind arith
 
   -- each buffer opens with the block in its place
   pub buffer_opens : (b : BufId) → inner (opening_of start) (Buffer b) ≡ slice_get lists.buffers.items b.0

@@ -26,10 +26,6 @@ pub record Begun {E B O : Type 0} (s : Asked E B O) (old new : List (QueueEvent 
   pub leaves : left ≡ record { threads = own_answered s.kernel.moves s.kernel.homes s.cpu (Some outcome) local; deferred = Some outcome }
 
 module _ {E B O : Type 0} (s : Asked E B O) (ActsFor : CpuId → Type 0) (all : (c : CpuId) → c.0 < CPUS → ActsFor c) (old new : List (QueueEvent E)) where
-  -- the CPU's scheduling state after a section with this outcome
-  abbrev threads_after : Threads → Outcome O → Threads
-  threads_after local abstract_answer = own_answered s.kernel.moves s.kernel.homes s.cpu (Some abstract_answer) local
-
   -- a poll result after no event of another
   record Alone (local : Sleeping O) (got : Left (Sleeping O) (Outcome O)) : Type 0 where
     poll_result : PollResult O

@@ -34,26 +34,18 @@ at_rest above =
       above = record { busy = None; above = above };
     }
 
--- the block that a lock is
-abbrev pub block_of_lock : {B : Type 0} → LockState B → SleepBlock (QLockBlock B)
-block_of_lock lock = record {
-  sleepers = lock.sleepers;
-  receivers = lock.receivers;
-  senders = lock.senders;
-  above = record { busy = lock.owner; above = lock.above };
-}
-
--- and the lock that a block is
+-- the lock that a block is
 abbrev pub lock_in : {B : Type 0} → SleepBlock (QLockBlock B) → LockState B
 lock_in block = nested_lock_of (state_of block)
 
--- Abstraction function: the edit that a call's handed part means, with the parcel of the payload.
+-- Abstraction function: the edit that a call's handed part means, with the message slot of the
+-- payload.
 abbrev pub abstract_plain_call : {H F R : Type 0} → (H → MessageSlot → F) → QLockCall H R → Payload
     → SleepEdit (QLockSection F R)
 abstract_plain_call abstract_call call payload =
     record { edit = record { edit = abstract_lock_call abstract_call call payload.message_slot } }
 
--- Abstraction function: the outcome for the layer above, with that parcel.
+-- Abstraction function: the outcome for the layer above, with that message slot.
 abbrev pub abstract_plain_answer : {B O : Type 0} → (B → MessageSlot → O) → Outcome (QLockReply B)
     → Payload
     → Outcome (QLockReply O)
@@ -116,7 +108,7 @@ KeptFits deferred hand =
 abbrev pub answer_waits : {B : Type 0} → Outcome B → Option Tid → Bool
 answer_waits outcome hand = not outcome.slept && is_some hand
 
--- what is kept after the scheduler's result, if this parcel is in the payload
+-- what is kept after the scheduler's result, if this message slot is in the payload
 abbrev pub kept_after : {E B : Type 0} → Option Tid → BufId → E → SchedAnswer (Outcome B)
     → MessageSlot
     → Option (Unanswered E B)
@@ -132,7 +124,7 @@ abbrev pub answered_after : {E B : Type 0} → Option (Unanswered E B) → Optio
 answered_after kept hand Done = option_map (λ k. k.outcome) kept
 answered_after kept hand (Answer outcome) = if answer_waits outcome hand then None else Some outcome
 
--- the parcel in the payload after it: that of the kept outcome, if that is returned
+-- the message slot in the payload after it: that of the kept outcome, if that is returned
 abbrev pub parcel_after : {E B : Type 0} → Option (Unanswered E B) → SchedAnswer (Outcome B)
     → MessageSlot → MessageSlot
 parcel_after None Done message_slot = message_slot

@@ -6,7 +6,6 @@ ghost use Rattle.plain_layers.specs.Attempts.{PlainState, allows, closed_after, 
 ghost use Rattle.plain_layers.specs.{Attempts.{attempt_side, waiting_on, with_waiter, waking_by, attempt_wakes, attempt_woken}, declared.attempts.Ask.Ask};
 ghost use Rattle.{plain_layers.specs.declared.attempts.{Ask.TheVariants.{Close, Receive, Send}, Tried.TheVariants.Acted}, thread_blocks.specs.Queues.first};
 
-use arrayvec::ArrayVec;
 use event_log::{CAPACITY, Kind, Msg, Ring, THREADS, Tid};
 use layer_traits::{Effect, MessageSlot, Side, Sleeps, WaitList, Wake};
 use std::marker::Model;
@@ -111,10 +110,10 @@ impl PlainBuffer {
     }
 
     /// Returns the items, head first.
-    pub fn items(&self) -> ArrayVec<Msg, CAPACITY>
-        ensures { result.items ≡ self.now.items }
+    pub fn items(&self) -> &Ring<Msg>
+        ensures { result.now ≡ self.now.items }
     {
-        self.items.items()
+        &self.items
     }
 
     /// Returns whether it is closed.

@@ -2,15 +2,16 @@
 
 ghost use Rattle.std.specs.Prelude.{◌≡◌, ◌<◌, [], None, Some, false, option_map, replicate, slice_set};
 ghost use Rattle.layer_traits.specs.{Blocks.Capacities.caps_in, Layers.BufferLaw.{buffer_of, no_call, reply_of, reply_with, call_state_of}};
-ghost use Rattle.{event_log.specs.declared.ids.TheConstants.THREADS, plain_layers.specs.Fifos.{ask_of, attempt_of, reply_to, call_state_after}};
+ghost use Rattle.{event_log.specs.declared.ids.TheConstants.THREADS, plain_layers.specs.{FifoOwned.buffer_of_plain, Fifos.{ask_of, attempt_of, reply_to}}};
+ghost use Rattle.plain_layers.specs.Fifos.{call_state_after};
 
-use crate::attempts::{Ask, Attempt, Tried};
+use crate::attempts::{Ask, Attempt, PlainBuffer, Tried};
 use crate::wholes::whole;
-use arrayvec::ArrayVec;
-use event_log::{BufId, CAPACITY, CpuId, Kind, Msg, THREADS, Tid};
+use event_log::{BufId, CpuId, Kind, THREADS, Tid};
 use layer_traits::{
-    BufferLaw, Call, CallLayer, CallState, Effect, Ghost, Outcome, OwnThreads, OwnedBuffers,
-    OwnedThreadLayer, Pass, Payload, ReplyKind, SleepLaw, Stage, ThreadLayer, WaitList, no_calls,
+    BufferLaw, BufferView, Call, CallLayer, CallState, Effect, Ghost, LockView, Outcome,
+    OwnThreads, OwnedBuffers, OwnedThreadLayer, Pass, Payload, ReplyKind, SleepLaw, Stage,
+    ThreadLayer, no_calls,
 };
 
 /// One CPU's part of first-in first-out blocking buffers as they are specified, over a part `S` of
@@ -220,67 +221,44 @@ impl<S: ThreadLayer<SleepLaw<Attempt>>> CallLayer<BufferLaw> for PlainFifo<S> {
     ghost opens = { λ step m homes c fresh. absurd step };
 }
 
+/// Returns what the buffer of a lock's block shows.
+fn plain_view(view: LockView<'_, PlainBuffer>) -> BufferView<'_>
+    ensures { result ≡ buffer_of_plain view.entry }
+{
+    BufferView {
+        items: view.above.items(),
+        closed: view.above.is_closed(),
+        owner: view.owner,
+        sleepers: view.sleepers,
+        receivers: view.receivers,
+        senders: view.senders,
+    }
+}
+
 impl<S: OwnedThreadLayer<SleepLaw<Attempt>>> OwnedBuffers for PlainFifo<S> {
     ghost use Rattle.{std.{specs.Prelude.option_map, proofs.Common.sym}, event_log.specs.{declared.ids.LockId.TheVariants.{Buffer, Pending}, Buffers.items_of}};
     ghost use Rattle.{event_log.specs.Runs.is_closed, layer_traits.specs.{Blocks.{BufferEffects.contents_of, QueueBlocks.inner}, Threads.Places.pending_by}};
     ghost use Rattle.layer_traits.specs.{Layers.{Queues.{buffer_sections, moves_in}, SleepLaw.sleep_kernel}, Views.Renaming.{viewed, viewed_block}};
-    ghost use Rattle.{layer_traits.proofs.OwnedLemmas.{parts_on, read_on, view_read}, plain_layers.specs.{Attempts.attempts, Fifos.plain_entries_in}};
-    ghost use Rattle.plain_layers.specs.{Fifos.{wait_lists_in, locked_after, plain_shown}, FifoOwned.{plain_closed_of, plain_items_in, plain_wait_lists_of}};
-    ghost use Rattle.plain_layers.specs.{FifoOwned.{nobody, nothing_read}, Laws.FifoOwned.{buffer_there, closed_read, entries_known, items_read}};
-    ghost use Rattle.plain_layers.specs.Laws.FifoOwned.{wait_lists_read, nobody_owns, there_viewed};
+    ghost use Rattle.{layer_traits.{specs.Views.Owned.shows, proofs.OwnedLemmas.{parts_on, read_on, view_read}}, plain_layers.specs.Attempts.attempts};
+    ghost use Rattle.plain_layers.specs.{Fifos.{plain_entries_in, wait_lists_in, locked_after, plain_shown}, FifoOwned.{nobody, plain_buffer}};
+    ghost use Rattle.plain_layers.specs.Laws.FifoOwned.{buffer_there, entries_known, plain_read, there_viewed};
 
     ghost owner = { λ m b. nobody };
 
-    ghost items_at = { λ m b. option_map plain_items_in (S.block_at m b) };
+    ghost buffer_at = { λ m b. option_map plain_buffer (S.block_at m b) };
 
-    ghost items_with = { λ p b. option_map plain_items_in (S.block_with p.lower b) };
-
-    ghost closed_at = { λ m b. option_map plain_closed_of (S.block_at m b) };
-
-    ghost closed_with = { λ p b. option_map plain_closed_of (S.block_with p.lower b) };
-
-    ghost owner_at = { λ m b. Some nobody };
-
-    ghost owner_with = { λ p b. nothing_read };
-
-    ghost wait_lists_at = { λ m b. option_map plain_wait_lists_of (S.block_at m b) };
-
-    ghost wait_lists_with = { λ p b. option_map plain_wait_lists_of (S.block_with p.lower b) };
+    ghost buffer_with = { λ p b. option_map plain_buffer (S.block_with p.lower b) };
 
     ghost queue_at = { λ m d. S.queue_at m d };
 
     ghost queue_with = { λ p d. S.queue_with p.lower d };
 
-    fn items_in(m: &S::Machine, b: BufId) -> Option<ArrayVec<Msg, CAPACITY>> {
-        Some(S::block_in(m, b)?.items())
+    fn buffer_in(m: &S::Machine, b: BufId) -> Option<BufferView<'_>> {
+        Some(plain_view(S::block_in(m, b)?))
     }
 
-    fn items_here(&self, b: BufId) -> Option<ArrayVec<Msg, CAPACITY>> {
-        Some(self.lower.block_here(b)?.items())
-    }
-
-    fn closed_in(m: &S::Machine, b: BufId) -> Option<bool> {
-        Some(S::block_in(m, b)?.is_closed())
-    }
-
-    fn closed_here(&self, b: BufId) -> Option<bool> {
-        Some(self.lower.block_here(b)?.is_closed())
-    }
-
-    fn owner_in(_m: &S::Machine, _b: BufId) -> Option<Option<Tid>> {
-        Some(None)
-    }
-
-    fn owner_here(&self, _b: BufId) -> Option<Option<Tid>> {
-        None
-    }
-
-    fn wait_list_in(m: &S::Machine, b: BufId, t: Tid) -> Option<WaitList> {
-        S::wait_list_in(m, b, t)
-    }
-
-    fn wait_list_here(&self, b: BufId, t: Tid) -> Option<WaitList> {
-        self.lower.wait_list_here(b, t)
+    fn buffer_here(&self, b: BufId) -> Option<BufferView<'_>> {
+        Some(plain_view(self.lower.block_here(b)?))
     }
 
     fn pends_in(m: &S::Machine, d: CpuId, t: Tid) -> Option<bool> {
@@ -293,33 +271,19 @@ impl<S: OwnedThreadLayer<SleepLaw<Attempt>>> OwnedBuffers for PlainFifo<S> {
 
     ghost known = { λ m c acts. entries_known (inner (S.opening m)) (S.history m) (S.known m c acts.0) };
 
-    ghost items = { λ m c b acts within. view_read
+    ghost shown = { λ m c b acts within. view_read
         (parts_on (λ (p : Self). p.lower) (λ p. S.Coupled p m) (λ (p : Self). Self.Coupled p m) (λ p. S.cpu_of p) (S.MayHold m) (λ p coupled. coupled.0))
-        plain_items_in (locked_after (inner (S.opening m)) (Buffer b) (buffer_sections (S.history m))) (λ p. S.block_with p b) (S.block_at m b)
-        (items_of (contents_of (caps_in (viewed plain_shown (S.opening m))) (plain_entries_in (inner (S.opening m)) (buffer_sections (S.history m)))) b.0)
-        (items_read (S.opening m) acts.2.fresh b within (buffer_sections (S.history m)))
+        plain_buffer (locked_after (inner (S.opening m)) (Buffer b) (buffer_sections (S.history m))) (λ p. S.block_with p b) (S.block_at m b)
+        (shows (items_of (contents_of (caps_in (viewed plain_shown (S.opening m)))
+        (plain_entries_in (inner (S.opening m)) (buffer_sections (S.history m)))) b.0)
+        (is_closed (plain_entries_in (inner (S.opening m)) (buffer_sections (S.history m))) b.0) nobody
+        (wait_lists_in (inner (S.opening m)) (buffer_sections (S.history m)) b))
+        (plain_read (S.opening m) acts.2.fresh b within (buffer_sections (S.history m)))
         (S.shown m c b acts.0 (buffer_there (S.opening m) acts.2.fresh b within)) };
-
-    ghost closed = { λ m c b acts within. view_read
-        (parts_on (λ (p : Self). p.lower) (λ p. S.Coupled p m) (λ (p : Self). Self.Coupled p m) (λ p. S.cpu_of p) (S.MayHold m) (λ p coupled. coupled.0))
-        plain_closed_of (locked_after (inner (S.opening m)) (Buffer b) (buffer_sections (S.history m))) (λ p. S.block_with p b) (S.block_at m b)
-        (is_closed (plain_entries_in (inner (S.opening m)) (buffer_sections (S.history m))) b.0)
-        (closed_read (S.opening m) acts.2.fresh b within (buffer_sections (S.history m)))
-        (S.shown m c b acts.0 (buffer_there (S.opening m) acts.2.fresh b within)) };
-
-    ghost owners = { λ m c b acts within. nobody_owns (λ (p : Self). Self.Coupled p m) (λ p. S.cpu_of p.lower)
-        (S.MayHold m) };
 
     ghost owner_is = { λ step m c b acts. absurd step };
 
     ghost items_are = { λ step m c b acts within. absurd step };
-
-    ghost waiters_law = { λ m c b acts within. view_read
-        (parts_on (λ (p : Self). p.lower) (λ p. S.Coupled p m) (λ (p : Self). Self.Coupled p m) (λ p. S.cpu_of p) (S.MayHold m) (λ p coupled. coupled.0))
-        plain_wait_lists_of (locked_after (inner (S.opening m)) (Buffer b) (buffer_sections (S.history m))) (λ p. S.block_with p b) (S.block_at m b)
-        (λ line. wait_lists_in (inner (S.opening m)) (buffer_sections (S.history m)) b line)
-        (wait_lists_read (S.opening m) acts.2.fresh b within (buffer_sections (S.history m)))
-        (S.shown m c b acts.0 (buffer_there (S.opening m) acts.2.fresh b within)) };
 
     ghost queues = { λ m c d acts there. read_on
         (parts_on (λ (p : Self). p.lower) (λ p. S.Coupled p m) (λ (p : Self). Self.Coupled p m) (λ p. S.cpu_of p) (S.MayHold m) (λ p coupled. coupled.0))

@@ -107,7 +107,7 @@ impl<E: Moves> PlainKernel<E> {
             (calls_in self.old) (abstract_queue_call E.abstract_call call payload.old)
             ≡ Some (abstract_queue_answer E.abstract_answer result payload.new) }
     {
-        // What the call leaves in the payload may overwrite its parcel.
+        // What the call leaves in the payload may overwrite its message slot.
         let abstract_call = whole_call::<E>(&call, payload);
         let answer = do_call::<E>(&mut self.lists, &call, payload);
         self.log

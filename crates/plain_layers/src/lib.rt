@@ -34,7 +34,7 @@ pub use ipcs::{PlainIpc, ipc_is_whole};
 pub use kernel::{Lists, Opening, PlainKernel};
 pub use lock_table::{LockTable, Noted};
 pub use locks::PlainLock;
-pub use qlock_edits::{PlainQBlock, PlainQEdit, plain_locks};
+pub use qlock_edits::{PlainQLockBlock, PlainQLockCall, plain_locks};
 pub use qlocks::{PlainQLock, Unanswered, lock_is_whole};
 pub use queues::PlainQueues;
 pub use scheds::PlainSched;

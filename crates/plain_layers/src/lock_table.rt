@@ -85,7 +85,7 @@ impl<E: SplitEdit> LockTable<E> {
             (section cpu lock (E.abstract_call handed payload.old))
             (E.abstract_answer result payload.new) }
     {
-        // The section may overwrite the edit's parcel with that of its result.
+        // The section may overwrite the edit's message slot with that of its result.
         let edit = E::whole(&handed, payload);
         let answer = edit_at::<E>(&mut self.blocks, lock, &handed, payload);
         self.log.push(Noted { cpu, lock, edit }).unwrap();

@@ -4,12 +4,13 @@
 ghost use Rattle.std.specs.Prelude.{◌≡◌, IfOk, is_some, map};
 ghost use Rattle.layer_traits.specs.{declared.locked.Side.TheVariants.{Receivers, Senders}, Layers.QLocking.{list_with_waiter, lock_asked_by, signalled}};
 ghost use Rattle.layer_traits.specs.Layers.{QLocking.{wait_list_asked, wait_list_for, waiting_without, lock_answer, lock_edited}, Sleeping.joined};
-ghost use Rattle.layer_traits.specs.{Views.Owned.wait_list_under, Blocks.Payloads.{abstract_lock_call, abstract_lock_answer, abstract_outcome}};
-ghost use Rattle.plain_layers.specs.QLocks.{at_rest, lock_in};
+ghost use Rattle.{layer_traits.specs.Blocks.Payloads.{abstract_lock_call, abstract_lock_answer, abstract_outcome}, plain_layers.specs.QLocks.at_rest};
+ghost use Rattle.plain_layers.specs.QLocks.{lock_in};
 
 use event_log::{NoMemory, THREADS, Tid};
 use layer_traits::{
-    Locked, Moves, Outcome, Payload, QLockCall, QLockReply, Side, SplitEdit, WaitList, WakeWaiter,
+    LockView, Locked, Moves, Outcome, Payload, QLockCall, QLockReply, Side, SplitEdit, WaitList,
+    WakeWaiter,
 };
 use std::alloc::Global;
 use std::marker::Model;
@@ -18,7 +19,7 @@ use thread_blocks::ThreadQueue;
 /// A queuing lock as plain data: its owner, the threads that wait at it, head first, and what it
 /// guards.
 #[derive(Drop)]
-pub struct PlainQBlock<B> {
+pub struct PlainQLockBlock<B> {
     owner: Option<Tid>,
     sleepers: ThreadQueue,
     receivers: ThreadQueue,
@@ -26,7 +27,7 @@ pub struct PlainQBlock<B> {
     above: B,
 }
 
-impl<B> Model for PlainQBlock<B> {
+impl<B> Model for PlainQLockBlock<B> {
     ghost use Rattle.{queuing_lock.specs.declared.edits.QLockBlock.QLockBlock, sleep_wakeup.specs.declared.edits.SleepBlock.SleepBlock};
 
     ghost Value = { SleepBlock (QLockBlock B) };
@@ -39,47 +40,33 @@ impl<B> Model for PlainQBlock<B> {
     } };
 }
 
-impl<B> PlainQBlock<B> {
-    /// Returns what the lock guards.
-    pub(crate) fn above(&self) -> &B
-        ensures { result.now ≡ self.now.above.above }
+impl<B> PlainQLockBlock<B> {
+    /// Returns what the block shows to the layers above.
+    pub(crate) fn shown(&self) -> LockView<'_, B>
+        ensures { result ≡ lock_in self.now }
     {
-        &self.above
-    }
-
-    /// Returns the thread that owns the lock, if there is one.
-    pub(crate) fn owner(&self) -> Option<Tid>
-        ensures { result ≡ self.now.above.busy }
-    {
-        self.owner
-    }
-
-    /// Returns the list in which `t` waits; `None` if it waits in none.
-    pub(crate) fn wait_list(&self, t: Tid) -> Option<WaitList>
-        ensures { result ≡ wait_list_under t (lock_in self.now) }
-    {
-        if self.sleepers.contains(t) {
-            return Some(WaitList::Sleepers);
+        LockView {
+            owner: self.owner,
+            sleepers: &self.sleepers,
+            receivers: &self.receivers,
+            senders: &self.senders,
+            above: &self.above,
         }
-        if self.receivers.contains(t) {
-            return Some(WaitList::Receivers);
-        }
-        if self.senders.contains(t) {
-            return Some(WaitList::Senders);
-        }
-        None
     }
 }
 
 /// Returns the locks at boot, in the order of what they guard. No thread owns one or waits at one.
 ///
 /// Errors: `NoMemory` if an allocation failed; then what they guard is dropped.
-pub fn plain_locks<B: Drop>(alloc: Global, blocks: Vec<B>) -> Result<Vec<PlainQBlock<B>>, NoMemory>
+pub fn plain_locks<B: Drop>(
+    alloc: Global,
+    blocks: Vec<B>,
+) -> Result<Vec<PlainQLockBlock<B>>, NoMemory>
     ensures { IfOk result (λ made. made.items ≡ map at_rest blocks.items) }
 {
     let mut made = Vec::with_capacity(alloc, blocks.len())?;
     for above in blocks {
-        made.push(PlainQBlock {
+        made.push(PlainQLockBlock {
             owner: None,
             sleepers: ThreadQueue::new(),
             receivers: ThreadQueue::new(),
@@ -93,11 +80,11 @@ pub fn plain_locks<B: Drop>(alloc: Global, blocks: Vec<B>) -> Result<Vec<PlainQB
 
 /// A call on a queuing lock, as an edit of the lock.
 #[derive(Drop)]
-pub struct PlainQEdit<F, R> {
+pub struct PlainQLockCall<F, R> {
     call: QLockCall<F, R>,
 }
 
-impl<F, R> Model for PlainQEdit<F, R> {
+impl<F, R> Model for PlainQLockCall<F, R> {
     ghost use Rattle.{queuing_lock.specs.declared.edits.QLockSection.QLockSection, sleep_wakeup.specs.declared.edits.SleepEdit.SleepEdit};
 
     ghost Value = { SleepEdit (QLockSection F R) };
@@ -116,7 +103,7 @@ fn join(queue: &mut ThreadQueue, t: Tid)
 
 /// Gives the lock to `t` if no thread owns it; otherwise `t` waits for it. Returns whether it
 /// waits.
-fn ask<B>(lock: &mut PlainQBlock<B>, t: Tid) -> bool
+fn ask<B>(lock: &mut PlainQLockBlock<B>, t: Tid) -> bool
     ensures lock { lock_in lock.new ≡ lock_asked_by t lock.old.above.busy (lock_in lock.old) }
     ensures waits { result ≡ is_some (wait_list_asked lock.old.above.busy) }
 {
@@ -177,7 +164,7 @@ fn list_of(side: Option<Side>) -> Option<WaitList>
 /// Does a call on a lock.
 fn apply<F: Locked>(
     handed: &QLockCall<F::Request, F::Release>,
-    block: &mut PlainQBlock<F::Block>,
+    block: &mut PlainQLockBlock<F::Block>,
     payload: &mut Payload,
 ) -> Outcome<QLockReply<F::Response>>
     ensures lock { lock_in block.new
@@ -231,10 +218,10 @@ fn apply<F: Locked>(
     }
 }
 
-impl<F: Locked> SplitEdit for PlainQEdit<F, F::Release> {
+impl<F: Locked> SplitEdit for PlainQLockCall<F, F::Release> {
     ghost use Rattle.plain_layers.specs.QLocks.{abstract_plain_call, plain_lock_rules, abstract_plain_answer};
 
-    type Block = PlainQBlock<F::Block>;
+    type Block = PlainQLockBlock<F::Block>;
 
     type Out = Outcome<QLockReply<F::Out>>;
 
@@ -251,25 +238,25 @@ impl<F: Locked> SplitEdit for PlainQEdit<F, F::Release> {
     fn whole(
         handed: &QLockCall<F::Request, F::Release>,
         payload: &Payload,
-    ) -> PlainQEdit<F, F::Release> {
+    ) -> PlainQLockCall<F, F::Release> {
         let call = match handed {
             QLockCall::Acquire(t) => QLockCall::Acquire(*t),
             QLockCall::Inside(edit) => QLockCall::Inside(F::whole(edit, &payload.message_slot)),
             QLockCall::Release(last) => QLockCall::Release(*last),
         };
-        PlainQEdit { call }
+        PlainQLockCall { call }
     }
 
     fn apply_request(
         handed: &QLockCall<F::Request, F::Release>,
-        block: &mut PlainQBlock<F::Block>,
+        block: &mut PlainQLockBlock<F::Block>,
         payload: &mut Payload,
     ) -> Outcome<QLockReply<F::Response>> {
         apply::<F>(handed, block, payload)
     }
 }
 
-impl<F: Locked> Moves for PlainQEdit<F, F::Release> {
+impl<F: Locked> Moves for PlainQLockCall<F, F::Release> {
     ghost use Rattle.{queuing_lock.specs.Nested.busy_rules, sleep_wakeup.specs.Laws.NestedLaws.nested_wakes, plain_layers.specs.QLocks.plain_lock_moves};
 
     ghost moves = { plain_lock_moves F.protocol };

@@ -6,17 +6,17 @@ ghost use Rattle.layer_traits.specs.{Blocks.Payloads.abstract_lock_call, Layers.
 ghost use Rattle.plain_layers.specs.{Wholes.IsCoarse, QLocks.{answered_after, handed_on, kept_after, noted_after, parcel_after}};
 
 use crate::kernel::PlainKernel;
-use crate::qlock_edits::PlainQEdit;
+use crate::qlock_edits::PlainQLockCall;
 use crate::scheds::PlainSched;
 use event_log::{BufId, CpuId, THREADS, Tid};
 use layer_traits::{
-    BufferCall, Ghost, Layer, Locked, MessageSlot, Moves, Outcome, OwnThreads, OwnedThreadLayer,
-    Pass, Payload, QLockCall, QLockLaw, QLockReply, SchedAnswer, SchedCall, SchedLaw, SplitEdit,
-    ThreadLayer, WaitList,
+    BufferCall, Ghost, Layer, LockView, Locked, MessageSlot, Moves, Outcome, OwnThreads,
+    OwnedThreadLayer, Pass, Payload, QLockCall, QLockLaw, QLockReply, SchedAnswer, SchedCall,
+    SchedLaw, SplitEdit, ThreadLayer,
 };
 
-/// A call that is done and has not returned: which it was, its outcome, and the parcel that the
-/// outcome brings.
+/// A call that is done and has not returned: which it was, its outcome, and the message slot that
+/// the outcome brings.
 #[derive(Drop)]
 pub struct Unanswered<E, B> {
     buffer: BufId,
@@ -30,10 +30,10 @@ pub struct Unanswered<E, B> {
 /// CPU returns at the next poll. That poll forwards the thread to its home CPU.
 #[derive(Drop)]
 pub struct PlainQLock<F: Locked> {
-    sched: PlainSched<PlainQEdit<F, F::Release>>,
+    sched: PlainSched<PlainQLockCall<F, F::Release>>,
     // The buffer for whose lock each thread slept, until its call returns.
     slept: [Option<BufId>; THREADS],
-    kept: Option<Unanswered<PlainQEdit<F, F::Release>, QLockReply<F::Response>>>,
+    kept: Option<Unanswered<PlainQLockCall<F, F::Release>, QLockReply<F::Response>>>,
 }
 
 /// Returns the thread that calls.
@@ -87,7 +87,7 @@ fn due<H: Drop>(hand: Option<Tid>, buffer: BufId, call: H) -> SchedCall<H>
 }
 
 /// Takes the scheduler's result, after which the hand is this. Returns the outcome of the call if
-/// it has one, with its parcel in the payload; otherwise the outcome is kept.
+/// it has one, with its message slot in the payload; otherwise the outcome is kept.
 fn take_up<E, B: Drop>(
     kept: &mut Option<Unanswered<E, B>>,
     hand: Option<Tid>,
@@ -161,7 +161,7 @@ impl<F: Locked> ThreadLayer<QLockLaw<F>> for PlainQLock<F> {
     ghost use Rattle.plain_layers.specs.{KernelParts.HasThreads, Kernels.{call_room, calls_in, no_site, opening_of}, QLocks.{HasLocks, KeptFits, calls_of}};
     ghost use Rattle.plain_layers.specs.QLocks.{abstract_kept, locks_of, plain_lock_moves, plain_lock_rules, under_kept};
 
-    type Machine = PlainKernel<PlainQEdit<F, F::Release>>;
+    type Machine = PlainKernel<PlainQLockCall<F, F::Release>>;
 
     ghost opening = { λ m. locks_of (opening_of m.opening) };
 
@@ -219,13 +219,13 @@ impl<F: Locked> ThreadLayer<QLockLaw<F>> for PlainQLock<F> {
         }
     }
 
-    fn look(&mut self, _m: &mut PlainKernel<PlainQEdit<F, F::Release>>) -> bool {
+    fn look(&mut self, _m: &mut PlainKernel<PlainQLockCall<F, F::Release>>) -> bool {
         false
     }
 
     fn poll(
         &mut self,
-        m: &mut PlainKernel<PlainQEdit<F, F::Release>>,
+        m: &mut PlainKernel<PlainQLockCall<F, F::Release>>,
         call: BufferCall<QLockCall<F::Request, F::Release>>,
         payload: &mut Payload,
     ) -> Option<Outcome<QLockReply<F::Response>>> {
@@ -240,7 +240,7 @@ impl<F: Locked> ThreadLayer<QLockLaw<F>> for PlainQLock<F> {
                 woke: None,
             });
         }
-        let whole = PlainQEdit::<F, F::Release>::whole(&edit, payload);
+        let whole = PlainQLockCall::<F, F::Release>::whole(&edit, payload);
         let abstract_call = Ghost::of(&whole);
         let waiting = hand_of(&self.sched);
         let step = due(waiting, buffer, edit);
@@ -252,7 +252,7 @@ impl<F: Locked> ThreadLayer<QLockLaw<F>> for PlainQLock<F> {
 
     fn pass(
         &mut self,
-        m: &mut PlainKernel<PlainQEdit<F, F::Release>>,
+        m: &mut PlainKernel<PlainQLockCall<F, F::Release>>,
         call: Pass,
         payload: &mut Payload,
     ) -> Option<()> {
@@ -309,35 +309,18 @@ impl<F: Locked> OwnedThreadLayer<QLockLaw<F>> for PlainQLock<F> {
 
     ghost queue_with = { λ p d. None };
 
-    fn block_in(m: &PlainKernel<PlainQEdit<F, F::Release>>, b: BufId) -> Option<&F::Block> {
-        Some(m.block(b)?.above())
-    }
-
-    fn block_here(&self, _b: BufId) -> Option<&F::Block> {
-        None
-    }
-
-    fn owner_in(m: &PlainKernel<PlainQEdit<F, F::Release>>, b: BufId) -> Option<Option<Tid>> {
-        Some(m.block(b)?.owner())
-    }
-
-    fn owner_here(&self, _b: BufId) -> Option<Option<Tid>> {
-        None
-    }
-
-    fn wait_list_in(
-        m: &PlainKernel<PlainQEdit<F, F::Release>>,
+    fn block_in(
+        m: &PlainKernel<PlainQLockCall<F, F::Release>>,
         b: BufId,
-        t: Tid,
-    ) -> Option<WaitList> {
-        m.block(b)?.wait_list(t)
+    ) -> Option<LockView<'_, F::Block>> {
+        Some(m.block(b)?.shown())
     }
 
-    fn wait_list_here(&self, _b: BufId, _t: Tid) -> Option<WaitList> {
+    fn block_here(&self, _b: BufId) -> Option<LockView<'_, F::Block>> {
         None
     }
 
-    fn pends_in(m: &PlainKernel<PlainQEdit<F, F::Release>>, d: CpuId, t: Tid) -> Option<bool> {
+    fn pends_in(m: &PlainKernel<PlainQLockCall<F, F::Release>>, d: CpuId, t: Tid) -> Option<bool> {
         m.pends(d, t)
     }
 

@@ -56,7 +56,7 @@ where
     match part.poll(m, BufferCall { buffer, edit }, payload) {
         Some(outcome) => outcome,
         None => {
-            // The section may have overwritten the edit's parcel with that of its result.
+            // The section may have overwritten the edit's message slot with that of its result.
             payload.message_slot = message_slot;
             part.poll(m, BufferCall { buffer, edit }, payload).unwrap()
         }

@@ -4,20 +4,21 @@ use Rattle.std.specs.{Prelude.{option_map, option_to_list, refl}, List.AllByRecu
 use Rattle.std.proofs.{Common.{ap, sym, ◌∙◌, subst}, lemmas.Option.slice_get-get_or}
 use Rattle.layer_traits.specs.Blocks.{Capacities.caps_in, BufferEffects.contents_of}
 use Rattle.layer_traits.specs.{Blocks.QueueBlocks.{above_of, inner}, Views.Renaming.viewed}
-use Rattle.layer_traits.specs.declared.{calls.Effect.Effect, moves.WaitList.WaitList}
+use Rattle.layer_traits.specs.{Views.Owned.{shows, unowned_lock}, declared.calls.Effect.Effect}
+use Rattle.layer_traits.specs.declared.moves.WaitList.{WaitList, TheVariants.{Sleepers, Receivers}}
+use Rattle.layer_traits.specs.declared.moves.WaitList.TheVariants.{Senders}
 use Rattle.layer_traits.specs.declared.queue_edits.QueueBlock.{QueueBlock}
 use Rattle.layer_traits.specs.declared.queues.QueueCall.{QueueCall, TheVariants.{Push, TakeAll}}
 use Rattle.layer_traits.specs.declared.queues.QueueCall.TheVariants.{OnBuffer}
 use Rattle.layer_traits.specs.{declared.queues.QueueEvent.QueueEvent, Layers.BufferLaw.entry_of}
 use Rattle.layer_traits.specs.Layers.Queues.{IsKnownEvent, buffer_sections, with_section}
-use Rattle.layer_traits.specs.Layers.Sleeping.{wait_list_at, sleep_edited}
-use Rattle.layer_traits.proofs.Alone.{block_there}
+use Rattle.layer_traits.specs.Layers.{Sleeping.{wait_list_at, sleep_edited}, QLocking.wait_list_in}
+use Rattle.layer_traits.proofs.{Alone.block_there, OwnedLemmas.same_buffer}
 use Rattle.fifo_buffer.specs.declared.monitor_blocks.MonitorEdit.{MonitorEdit}
 use Rattle.fifo_buffer.specs.{Monitors.monitor_rules, MonitorHistories.MonitorLocked}
 use Rattle.fifo_buffer.specs.MonitorHistories.{fresh_monitor, fresh_monitors, monitor_after}
 use Rattle.fifo_buffer.specs.MonitorHistories.{monitor_effect_by, monitor_entries, monitor_lists}
-use Rattle.fifo_buffer.specs.MonitorOwned.{debtor_in, monitor_closed, monitor_debtor, monitor_items}
-use Rattle.fifo_buffer.specs.{MonitorOwned.monitor_lists_of, MonitorParts.monitor_shown}
+use Rattle.fifo_buffer.specs.{MonitorOwned.{debtor_in, monitor_buffer}, MonitorParts.monitor_shown}
 use Rattle.{fifo_buffer.specs.Laws.MonitorTallies.monitor_tally, event_log.specs.Runs.is_closed}
 use Rattle.event_log.specs.declared.{entries.Entry.Entry, ids.{BufId.BufId, LockId.LockId}}
 use Rattle.event_log.specs.declared.ids.{LockId.TheVariants.Buffer, Tid.Tid, TheConstants.CPUS}
@@ -60,41 +61,28 @@ module _ (opening : LockId → Option (QueueBlock MonitorLocked))
       go None is some = absurd cc
       go (Some state) is some = (state, is)
 
-  -- its items are those that the effects leave
-  pub monitor_items_read : (past : List (Section MonitorEdit))
-      → option_map monitor_items (monitor_after (inner opening) (Buffer b) past)
-      ≡ Some (items_of (contents_of (caps_in (viewed monitor_shown opening))
+  -- it shows what the effects and its last section leave
+  pub monitor_read : (past : List (Section MonitorEdit))
+      → option_map monitor_buffer (monitor_after (inner opening) (Buffer b) past)
+      ≡ Some (shows (items_of (contents_of (caps_in (viewed monitor_shown opening))
       (monitor_entries (inner opening) past)) b.0)
-  monitor_items_read past =
+      (is_closed (monitor_entries (inner opening) past) b.0)
+      (debtor_in (monitor_after (inner opening) (Buffer b) past))
+      (monitor_lists (inner opening) past b))
+  monitor_read past =
       let state = found past in
-      ap (option_map monitor_items) state.1
-      ∙ ap Some (sym (monitor_tally (inner opening) (caps_in (viewed monitor_shown opening)) past
-      fresh b state.0 state.1).items)
-
-  -- it is closed if an effect has closed it
-  pub monitor_closed_read : (past : List (Section MonitorEdit))
-      → option_map monitor_closed (monitor_after (inner opening) (Buffer b) past)
-      ≡ Some (is_closed (monitor_entries (inner opening) past) b.0)
-  monitor_closed_read past =
-      let state = found past in
-      ap (option_map monitor_closed) state.1
-      ∙ ap Some (sym (monitor_tally (inner opening) (caps_in (viewed monitor_shown opening)) past
-      fresh b state.0 state.1).closed)
-
-  pub monitor_debtor_read : (past : List (Section MonitorEdit))
-      → option_map monitor_debtor (monitor_after (inner opening) (Buffer b) past)
-      ≡ Some (debtor_in (monitor_after (inner opening) (Buffer b) past))
-  monitor_debtor_read past = let state =
-      found past in ap (option_map monitor_debtor) state.1
-      ∙ ap (λ o. Some (debtor_in o)) (sym state.1)
-
-  pub monitor_lists_read : (past : List (Section MonitorEdit))
-      → option_map monitor_lists_of (monitor_after (inner opening) (Buffer b) past)
-      ≡ Some (λ (line : WaitList). monitor_lists (inner opening) past b line)
-  monitor_lists_read past =
-      let state = found past in
-      ap (option_map monitor_lists_of) state.1
-      ∙ ap (λ o. Some (λ (line : WaitList). wait_list_at line o)) (sym state.1)
+      let tally =
+      monitor_tally (inner opening) (caps_in (viewed monitor_shown opening)) past fresh b state.0
+      state.1 in
+      ap (option_map monitor_buffer) state.1
+      ∙ ap Some (same_buffer (sym tally.items) (sym tally.closed) (ap debtor_in (sym state.1))
+      (λ line. at_line state.0 line ∙ ap (wait_list_at line) (sym state.1)))
+    where
+      at_line : (state : MonitorLocked) (line : WaitList)
+          → wait_list_in line (Some (unowned_lock state)) ≡ wait_list_at line (Some state)
+      at_line state Sleepers = refl
+      at_line state Receivers = refl
+      at_line state Senders = refl
 
 -- each effect has its section's CPU, which is one that a machine may have
 pub monitor_entries_known : (locks : LockId → Option MonitorLocked)

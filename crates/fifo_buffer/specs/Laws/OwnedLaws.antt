@@ -8,23 +8,23 @@ use Rattle.layer_traits.specs.Blocks.BufferEffects.{effect_of, effects_in, fresh
 use Rattle.layer_traits.specs.Blocks.BufferProtocol.{BufferLock, buffer_lock_at}
 use Rattle.layer_traits.specs.Blocks.{BufferProtocol.buffer_monitor_rules, QueueBlocks.StartsWell}
 use Rattle.layer_traits.specs.Blocks.{QueueBlocks.{above_of, inner}, QueueRules.AreProper}
-use Rattle.layer_traits.specs.declared.{buffer_edits.BufferEdit.BufferEdit, moves.WaitList.WaitList}
+use Rattle.layer_traits.specs.declared.buffer_edits.BufferEdit.{BufferEdit}
 use Rattle.layer_traits.specs.declared.queue_edits.QueueBlock.{QueueBlock}
 use Rattle.layer_traits.specs.declared.queues.QueueCall.{QueueCall, TheVariants.{Push, TakeAll}}
 use Rattle.layer_traits.specs.declared.queues.QueueCall.TheVariants.{OnBuffer}
-use Rattle.layer_traits.specs.{Views.Acted.{BufferActs, ItemsAre}, Layers.Conditions.CvCall}
-use Rattle.layer_traits.specs.Layers.{Conditions.cv_rules, QLockLaw.lock_kernel}
+use Rattle.layer_traits.specs.Views.{Acted.{BufferActs, ItemsAre}, Owned.shows}
+use Rattle.layer_traits.specs.Layers.{Conditions.{CvCall, cv_rules}, QLockLaw.lock_kernel}
 use Rattle.layer_traits.specs.Layers.QLocking.{wait_list_in, lock_edited, owner_in}
 use Rattle.layer_traits.specs.Layers.Queues.{IsKnownEvent, QueueAllowed, buffer_sections, event_of}
 use Rattle.layer_traits.specs.{Layers.Queues.with_section, Protocols.Protocol.section}
 use Rattle.layer_traits.proofs.{Alone.block_there as stays_there, ActedLemmas.lock_is}
+use Rattle.layer_traits.proofs.OwnedLemmas.{same_buffer}
 use Rattle.event_log.specs.declared.{entries.Entry.Entry, ids.{BufId.BufId, CpuId.CpuId}}
 use Rattle.event_log.specs.declared.ids.{LockId.{LockId, TheVariants.Buffer}, TheConstants.CPUS}
 use Rattle.event_log.specs.{Buffers.items_of, History.IsLawful, Runs.is_closed}
 use Rattle.{event_log.specs.Sections.sections_in, fifo_buffer.specs.FifoFits.BootsSo}
 use Rattle.fifo_buffer.specs.{Laws.Tallies.{all_tallied, effect_position}, OwnedLaws.buffer_lock_of}
-use Rattle.fifo_buffer.specs.OwnedLaws.{closed_of, items_in, lock_owner_of, wait_lists_of}
-use Rattle.fifo_buffer.specs.SectionPolls.{BufferEvent}
+use Rattle.fifo_buffer.specs.{OwnedLaws.buffer_shown, SectionPolls.BufferEvent}
 
 module _ (opening : LockId → Option (QueueBlock BufferLock)) (boots : BootsSo opening) (b : BufId)
     (within : b.0 < length (caps_in opening)) where
@@ -55,28 +55,21 @@ module _ (opening : LockId → Option (QueueBlock BufferLock)) (boots : BootsSo 
       go None is some = absurd cc
       go (Some lock) is some = (lock, is)
 
-  -- its items are those that the effects leave
-  pub items_read : (past : List BufferEvent)
+  -- it shows what the effects and its last section leave
+  pub buffer_read : (past : List BufferEvent)
       → IsLawful (QueueAllowed (lock_kernel (cv_rules buffer_monitor_rules) opening)) past
-      → option_map items_in (buffer_lock_of opening past b)
-      ≡ Some (items_of (contents_of (caps_in opening)
+      → option_map buffer_shown (buffer_lock_of opening past b)
+      ≡ Some (shows (items_of (contents_of (caps_in opening)
       (effects_in (inner opening) (buffer_sections past))) b.0)
-  items_read past lawful =
+      (is_closed (effects_in (inner opening) (buffer_sections past)) b.0)
+      (owner_in (buffer_lock_of opening past b))
+      (λ line. wait_list_in line (buffer_lock_of opening past b)))
+  buffer_read past lawful =
       let lock = found past in
-      ap (option_map items_in) lock.1
-      ∙ ap Some (sym (all_tallied opening (caps_in opening) boots past lawful b lock.0
-      lock.1).items)
-
-  -- and it is closed exactly if one of them closed it
-  pub closed_read : (past : List BufferEvent)
-      → IsLawful (QueueAllowed (lock_kernel (cv_rules buffer_monitor_rules) opening)) past
-      → option_map closed_of (buffer_lock_of opening past b)
-      ≡ Some (is_closed (effects_in (inner opening) (buffer_sections past)) b.0)
-  closed_read past lawful =
-      let lock = found past in
-      ap (option_map closed_of) lock.1
-      ∙ ap Some (sym (all_tallied opening (caps_in opening) boots past lawful b lock.0
-      lock.1).closed)
+      let tally = all_tallied opening (caps_in opening) boots past lawful b lock.0 lock.1 in
+      ap (option_map buffer_shown) lock.1
+      ∙ ap Some (same_buffer (sym tally.items) (sym tally.closed)
+      (ap owner_in (sym lock.1)) (λ line. ap (wait_list_in line) (sym lock.1)))
 
   -- and if they are those of the actions' sections, they are what these leave in its lock
   pub items_acted : (past : List BufferEvent) (acts : BufferActs) → StartsWell opening
@@ -98,21 +91,6 @@ module _ (opening : LockId → Option (QueueBlock BufferLock)) (boots : BootsSo 
         may_hold = tally.capacity;
         shut = tally.closed;
       }
-
-  pub owner_read : (past : List BufferEvent)
-      → option_map lock_owner_of (buffer_lock_of opening past b)
-      ≡ Some (owner_in (buffer_lock_of opening past b))
-  owner_read past =
-      let lock = found past in
-      ap (option_map lock_owner_of) lock.1 ∙ ap (λ o. Some (owner_in o)) (sym lock.1)
-
-  pub wait_lists_read : (past : List BufferEvent)
-      → option_map wait_lists_of (buffer_lock_of opening past b)
-      ≡ Some (λ (line : WaitList). wait_list_in line (buffer_lock_of opening past b))
-  wait_lists_read past =
-      let lock = found past in
-      ap (option_map wait_lists_of) lock.1
-      ∙ ap (λ o. Some (λ (line : WaitList). wait_list_in line o)) (sym lock.1)
 
 -- each effect has its section's CPU, which is one that a machine may have
 pub effects_known : (O : LockId → Option BufferLock) (past : List BufferEvent)

@@ -1,7 +1,7 @@
 -- The place that a part reports for a thread is correct, and for each thread some part can report
 -- it.
 use Rattle.std.specs.Prelude.{◌≡◌, ◌≢◌, ◌⊎◌, ℕ, ◌<◌, Bool, true, false, ◌||◌, ◌&&◌, List, Option}
-use Rattle.std.specs.Prelude.{Some, None, length, option_map, option_and_then, if◌then◌else◌, refl}
+use Rattle.std.specs.Prelude.{Some, None, length, option_map, option_and_then, refl}
 use Rattle.std.{specs.Option.option_or, proofs.lemmas.Option.{same_Some, slice_get-get_or}}
 use Rattle.std.proofs.{lemmas.Bool.or_parts, Common.{inl, inr, ap, subst, sym, ◌∙◌, arith}}
 use Rattle.event_log.specs.declared.ids.{BufId.BufId, CpuId.CpuId, LockId.LockId}

@@ -2,22 +2,23 @@
 -- wakeup below report.
 use Rattle.std.specs.Prelude.{◌≡◌, ◌<◌, List, [], ◌∷◌, ◌++◌, length, Option, Some, None, IsSome}
 use Rattle.std.specs.{Prelude.{option_map, option_to_list, refl}, List.AllByRecursion}
-use Rattle.std.proofs.{Common.{ap, sym, ◌∙◌, subst}, lemmas.Option.{same_Some, slice_get-get_or}}
+use Rattle.std.proofs.{Common.{ap, sym, ◌∙◌, subst}, lemmas.Option.slice_get-get_or}
 use Rattle.layer_traits.specs.Blocks.{Capacities.caps_in, BufferEffects.contents_of}
 use Rattle.layer_traits.specs.{Blocks.QueueBlocks.{above_of, inner}, Views.Renaming.viewed}
-use Rattle.layer_traits.specs.{Views.Observed.IsObservedAs, declared.calls.Effect.Effect}
-use Rattle.layer_traits.specs.declared.{moves.WaitList.WaitList, queue_edits.QueueBlock.QueueBlock}
+use Rattle.layer_traits.specs.{Views.Owned.{shows, unowned_lock}, declared.calls.Effect.Effect}
+use Rattle.layer_traits.specs.declared.moves.WaitList.{WaitList, TheVariants.{Sleepers, Receivers}}
+use Rattle.layer_traits.specs.declared.moves.WaitList.TheVariants.{Senders}
+use Rattle.layer_traits.specs.declared.queue_edits.QueueBlock.{QueueBlock}
 use Rattle.layer_traits.specs.declared.queues.QueueCall.{QueueCall, TheVariants.{Push, TakeAll}}
 use Rattle.layer_traits.specs.declared.queues.QueueCall.TheVariants.{OnBuffer}
 use Rattle.layer_traits.specs.{declared.queues.QueueEvent.QueueEvent, Layers.BufferLaw.entry_of}
 use Rattle.layer_traits.specs.Layers.Queues.{IsKnownEvent, buffer_sections, with_section}
-use Rattle.layer_traits.specs.Layers.Sleeping.{wait_list_at, sleep_edited}
-use Rattle.{layer_traits.proofs.Alone.block_there, plain_layers.specs.Fifos.plain_shown}
-use Rattle.plain_layers.specs.Fifos.{PlainLocked, effect_by, plain_entries_in, fresh_buffer}
-use Rattle.plain_layers.specs.Fifos.{fresh_buffers, wait_lists_in, locked_after}
+use Rattle.layer_traits.specs.Layers.{Sleeping.{wait_list_at, sleep_edited}, QLocking.wait_list_in}
+use Rattle.layer_traits.proofs.{Alone.block_there, OwnedLemmas.same_buffer}
+use Rattle.plain_layers.specs.Fifos.{plain_shown, PlainLocked, effect_by, plain_entries_in}
+use Rattle.plain_layers.specs.Fifos.{fresh_buffer, fresh_buffers, wait_lists_in, locked_after}
 use Rattle.plain_layers.specs.{declared.attempts.Attempt.Attempt, Attempts.attempts}
-use Rattle.plain_layers.specs.FifoOwned.{plain_closed_of, plain_items_in, nobody, nothing_read}
-use Rattle.plain_layers.specs.{FifoOwned.plain_wait_lists_of, Laws.FifoTallies.plain_tally}
+use Rattle.plain_layers.specs.{FifoOwned.{nobody, plain_buffer}, Laws.FifoTallies.plain_tally}
 use Rattle.event_log.specs.declared.{entries.Entry.Entry, ids.{BufId.BufId, CpuId.CpuId}}
 use Rattle.event_log.specs.declared.ids.{LockId.{LockId, TheVariants.Buffer}, Tid.Tid}
 use Rattle.event_log.specs.{declared.ids.TheConstants.CPUS, Buffers.items_of, History.IsLawful}
@@ -59,44 +60,27 @@ module _ (opening : LockId → Option (QueueBlock PlainLocked))
       go None is some = absurd cc
       go (Some state) is some = (state, is)
 
-  -- its items are those that the effects leave
-  pub items_read : (past : List (Section Attempt))
-      → option_map plain_items_in (locked_after (inner opening) (Buffer b) past)
-      ≡ Some (items_of (contents_of (caps_in (viewed plain_shown opening))
+  -- it shows what the effects and its last section leave
+  pub plain_read : (past : List (Section Attempt))
+      → option_map plain_buffer (locked_after (inner opening) (Buffer b) past)
+      ≡ Some (shows (items_of (contents_of (caps_in (viewed plain_shown opening))
       (plain_entries_in (inner opening) past)) b.0)
-  items_read past =
+      (is_closed (plain_entries_in (inner opening) past) b.0) nobody
+      (wait_lists_in (inner opening) past b))
+  plain_read past =
       let state = found past in
-      ap (option_map plain_items_in) state.1
-      ∙ ap Some (sym (plain_tally (inner opening) (caps_in (viewed plain_shown opening)) past fresh
-      b state.0 state.1).items)
-
-  -- it is closed if an effect has closed it
-  pub closed_read : (past : List (Section Attempt))
-      → option_map plain_closed_of (locked_after (inner opening) (Buffer b) past)
-      ≡ Some (is_closed (plain_entries_in (inner opening) past) b.0)
-  closed_read past =
-      let state = found past in
-      ap (option_map plain_closed_of) state.1
-      ∙ ap Some (sym (plain_tally (inner opening) (caps_in (viewed plain_shown opening)) past fresh
-      b state.0 state.1).closed)
-
-  pub wait_lists_read : (past : List (Section Attempt))
-      → option_map plain_wait_lists_of (locked_after (inner opening) (Buffer b) past)
-      ≡ Some (λ (line : WaitList). wait_lists_in (inner opening) past b line)
-  wait_lists_read past =
-      let state = found past in
-      ap (option_map plain_wait_lists_of) state.1
-      ∙ ap (λ o. Some (λ (line : WaitList). wait_list_at line o)) (sym state.1)
-
--- no thread owns a lock of buffers with one section a call, and the machine reports so
-pub nobody_owns : {P : Type 0} (Coupled : P → Type 0) (cpu_of : P → CpuId)
-    (IsInside : CpuId → Type 0)
-    → IsObservedAs Coupled cpu_of IsInside (λ p. nothing_read) (Some nobody) nobody
-nobody_owns Coupled cpu_of IsInside = record {
-  by_machine = λ x is. same_Some x nobody (sym is);
-  by_part = λ p x coupled is. absurd cc;
-  somewhere = λ none. absurd cc;
-}
+      let tally =
+      plain_tally (inner opening) (caps_in (viewed plain_shown opening)) past fresh b state.0
+      state.1 in
+      ap (option_map plain_buffer) state.1
+      ∙ ap Some (same_buffer (sym tally.items) (sym tally.closed) refl
+      (λ line. at_line state.0 line ∙ ap (wait_list_at line) (sym state.1)))
+    where
+      at_line : (state : PlainLocked) (line : WaitList)
+          → wait_list_in line (Some (unowned_lock state)) ≡ wait_list_at line (Some state)
+      at_line state Sleepers = refl
+      at_line state Receivers = refl
+      at_line state Senders = refl
 
 -- each effect has its section's CPU, which is one that a machine may have
 pub entries_known : (locks : LockId → Option PlainLocked) (past : List (QueueEvent Attempt))

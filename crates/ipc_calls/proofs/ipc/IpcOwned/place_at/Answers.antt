@@ -1,7 +1,7 @@
-use Rattle.std.proofs.{Common.{◌≡◌, false, length, Some, inr, refl, ap, sym, ◌∙◌, subst}, lemmas.Option.same_Some}
+use Rattle.std.proofs.{Common.{◌≡◌, false, length, Some, option_map, inr, refl, ap, sym, ◌∙◌, subst}, lemmas.Option.same_Some}
 use Rattle.layer_traits.specs.{Blocks.{Capacities.caps_in, QueueBlocks.homes_in}, Threads.Places.{Asleep, At, IsPending, home_of, where_is}}
-use Rattle.{layer_traits.specs.Views.Observed.queue_place, event_log.specs.declared.ids.LockId.TheVariants.Buffer, ipc_calls.specs.Laws.PlaceLaws.sleeps_there}
-use Rattle.ipc_calls.specs.{Laws.PlaceLaws.{read_pends, read_sleeps}, Parts.pends_read}
+use Rattle.layer_traits.{specs.Views.{Owned.lists_shown, Observed.queue_place}, proofs.OwnedLemmas.lists_as}
+use Rattle.{event_log.specs.declared.ids.LockId.TheVariants.Buffer, ipc_calls.specs.{Laws.PlaceLaws.{sleeps_there, read_pends, read_sleeps}, Parts.pends_read}}
 use Rattle.ipc_calls.proofs.ipc.IpcOwned.place_at.Goals as goal
 
 -- the queue that is read is that of the thread's home
@@ -61,7 +61,9 @@ returns-clause-observed g c x is =
     let within = c.in_ok-buffer.ensures.within (buffer, line) refl in
     let sleeps : where_is (homes_in (B.opening m)) (B.moves m) c.args.t ≡ Asleep (At (Buffer buffer) line)
     = read_sleeps (λ q. B.Coupled q m) (λ q. B.cpu_of q) (B.MayHold m) (homes_in (B.opening m)) (B.moves m)
-    (length (caps_in (B.opening m))) (B.wait_lists m) (law.lists p m coupled) buffer within c.args.t line p (λ q. O.wait_lists_with q buffer)
-    (O.wait_lists_at m buffer) coupled
-    (g.met.B.OwnedBuffers.waiters_law m (B.cpu_of p) buffer (law.own_cpu p m coupled) within) (c.in_ok-buffer.ensures.found (buffer, line) refl) in
+    (length (caps_in (B.opening m))) (B.wait_lists m) (law.lists p m coupled) buffer within c.args.t line p
+    (λ q. option_map lists_shown (O.buffer_with q buffer))
+    (option_map lists_shown (O.buffer_at m buffer)) coupled
+    (lists_as (λ q. B.Coupled q m) (λ q. B.cpu_of q) (B.MayHold m) (λ q. O.buffer_with q buffer) (O.buffer_at m buffer) _ _ _ (B.wait_lists m buffer)
+    (g.met.B.OwnedBuffers.shown m (B.cpu_of p) buffer (law.own_cpu p m coupled) within)) (c.in_ok-buffer.ensures.found (buffer, line) refl) in
     inr (ap queue_place sleeps ∙ (sleeps_there buffer line ∙ (ap Some (sym c.waiters_of.ensures) ∙ is)))
