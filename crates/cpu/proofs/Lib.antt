@@ -5,3 +5,4 @@ pub mod Tower
 pub mod WholeSystems
 pub mod StepTable
 pub mod OverLayer
+pub mod TableOrder

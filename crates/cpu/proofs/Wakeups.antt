@@ -23,3 +23,4 @@ pub mod ReadyCalls
 pub mod EachThreadPlaced
 pub mod PremisesMet
 pub mod Merging
+pub mod InLine

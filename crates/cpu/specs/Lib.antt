@@ -12,3 +12,4 @@ pub mod Quiescent
 pub mod Boots
 pub mod Tables
 pub mod CpuSteps
+pub mod TableOrder

@@ -89,7 +89,7 @@ pub record IsAwakeAt (s : SystemView) (b : ℕ) (k : Buffer) : Type 0 where
 pub record HasBuffer (setup : SystemConfig) (s : SystemView) (b : ℕ) : Type 0 where
   pub buffer : Buffer
   pub there : block_at setup (AtBuffer (buffer_at b)) s.log ≡ Some (OfBuffer buffer)
-  pub told : BufferIsObserved s b buffer
+  pub observed : BufferIsObserved s b buffer
   pub awake : IsAwakeAt s b buffer
 
 -- the system reports each CPU, each buffer and the place of each thread as it is; there is a CPU,

@@ -1,5 +1,5 @@
--- When a CPU of a system is calm, when a system is quiet (quiescent), and that no trace is longer
--- than its room.
+-- When a CPU of a system is quiescent, when a system is quiet (quiescent), and that no trace is
+-- longer than its room.
 use Rattle.std.specs.Prelude.{◌≡◌, ℕ, ◌<◌, ◌≤◌, Bool, true, false, not, ◌&&◌, List, [], ◌∷◌, length}
 use Rattle.std.specs.Prelude.{Option, Some, None, is_some, slice_get}
 use Rattle.event_log.specs.declared.ids.{CpuId.CpuId, Tid.Tid}
@@ -18,8 +18,8 @@ abbrev pub rests : Bool → Threads → Bool
 rests busy local =
     not busy && (not (is_some local.current) && (not (is_some local.hand) && is_nobody local.ready))
 
--- A halted CPU is calm if each of its threads has ended; one whose trace is full has a thread that
--- would call. Any other CPU is calm if it rests.
+-- A halted CPU is quiescent if each of its threads has ended; one whose trace is full has a thread
+-- that would call. Any other CPU is quiescent if it rests.
 abbrev pub quiescent_by : Option Reason → Bool → Threads → Bool
 quiescent_by (Some AllEnded) busy local = true
 quiescent_by (Some TraceFull) busy local = false
@@ -30,7 +30,7 @@ abbrev pub is_quiescent : Option CpuView → Bool
 is_quiescent None = false
 is_quiescent (Some p) = quiescent_by (own_reason p) p.busy p.local
 
--- whether CPU c is calm
+-- whether CPU c is quiescent
 abbrev pub quiescent_in : CpuId → SystemView → Bool
 quiescent_in c s = is_quiescent (slice_get s.cpus c.0)
 
@@ -38,7 +38,7 @@ quiescent_in c s = is_quiescent (slice_get s.cpus c.0)
 abbrev pub AllQueuesEmpty : SystemView → Type 0
 AllQueuesEmpty s = (c : CpuId) → c.0 < length s.cpus → pending_by s.moves c ≡ []
 
--- a system is quiet: each CPU is calm, and all pending queues are empty
+-- a system is quiet: each CPU is quiescent, and all pending queues are empty
 pub record IsQuiet (s : SystemView) : Type 0 where
   pub quiescent : (c : CpuId) → c.0 < length s.cpus → quiescent_in c s ≡ true
   pub pending : AllQueuesEmpty s

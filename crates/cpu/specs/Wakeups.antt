@@ -6,3 +6,4 @@ pub mod Alone
 pub mod OnePlace
 pub mod Met
 pub mod Merged
+pub mod Served

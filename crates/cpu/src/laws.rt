@@ -2,10 +2,10 @@
 //! that the law is proved with the crate.
 
 ghost use Rattle.cpu.specs.{Linear.LinearRunsKeepRealTime, Table.{Worked.{AloneRuns, RunsOfTwo, RunsOfThree}, Closing.ClosingRuns, Words.RunsOfWords}};
-ghost use Rattle.cpu.specs.{Tower.Views.TablesAgree};
-ghost use Rattle.cpu.specs.{Tower.Composed.{HaltsExactly, PlansAreLines}, Wakeups.Lost.{OrderLosesNoWakeUp, SystemsKeepOrder, SystemsLoseNoWakeUp}};
-ghost use Rattle.cpu.specs.Wakeups.{Lost.{FreeLocksHaveNoSleepers, CpusLoseNoWakeUp}, OneSignal.{OneSignalLosesAWakeUp, SilentAnswerLosesAWakeUp}};
-ghost use Rattle.cpu.specs.Wakeups.{Merged.WorkIsARun, Quiet.QuietIsStuck, Alone.CallsReturnAlone, OnePlace.StandInOnePlace, Met.PremisesAreMet};
+ghost use Rattle.cpu.specs.{TableOrder.{TableHasOneOrder, TableKeepsRealTime}, Tower.{Views.TablesAgree, Composed.{HaltsExactly, PlansAreLines}}};
+ghost use Rattle.cpu.specs.Wakeups.Lost.{OrderLosesNoWakeUp, SystemsKeepOrder, SystemsLoseNoWakeUp, FreeLocksHaveNoSleepers, CpusLoseNoWakeUp};
+ghost use Rattle.cpu.specs.Wakeups.{OneSignal.{OneSignalLosesAWakeUp, SilentAnswerLosesAWakeUp}, Served.SystemsServeInOrder, Merged.WorkIsARun};
+ghost use Rattle.cpu.specs.Wakeups.{Quiet.QuietIsStuck, Alone.CallsReturnAlone, OnePlace.StandInOnePlace, Met.PremisesAreMet};
 
 /// Worked runs of one thread on one CPU, by computation: what each leaves after its schedule.
 pub fn runs_alone()
@@ -110,6 +110,26 @@ pub fn calls_return_alone()
 /// in a hand, pending, asleep at a lock or waiting at a buffer.
 pub fn stand_in_one_place()
     ensures { StandInOnePlace }
+{}
+
+/// First come, first served. In every state that a system reaches, the threads that entered a line
+/// (wait queue) of a buffer, oldest first, are those whose calls of its side took effect, in the
+/// order of these effects, followed by those in the line.
+pub fn systems_serve_in_order()
+    ensures { SystemsServeInOrder }
+{}
+
+/// Linearization. Under every schedule the calls of the step table's system have one order, that of
+/// the steps in which they take effect. It keeps each CPU's trace, is a legal history of FIFO
+/// buffers, and ends in what the buffers hold.
+pub fn table_has_one_order()
+    ensures { TableHasOneOrder }
+{}
+
+/// Real-time order (Herlihy and Wing) in the step table's system: at each moment of a run, a call
+/// that has returned precedes each call that has not begun.
+pub fn table_keeps_real_time()
+    ensures { TableKeepsRealTime }
 {}
 
 /// States that systems reach meet the premises of the laws on quiescent systems and on uncontended

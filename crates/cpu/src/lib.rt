@@ -28,6 +28,7 @@ pub use laws::{
     linear_runs_keep_real_time, one_signal_loses_a_wake_up, order_loses_no_wake_up,
     plans_are_lines, premises_are_met, quiet_is_stuck, runs_alone, runs_of_closing, runs_of_three,
     runs_of_two, runs_of_words, silent_answer_loses_a_wake_up, stand_in_one_place,
-    systems_keep_order, systems_lose_no_wake_up, tables_agree, work_is_a_run,
+    systems_keep_order, systems_lose_no_wake_up, systems_serve_in_order, table_has_one_order,
+    table_keeps_real_time, tables_agree, work_is_a_run,
 };
 pub use systems::{BadCpu, System, guests_of, homes_of};

@@ -52,10 +52,11 @@ module _ {P L M : Type 0} {I : Ghosts P L M} (laws : PartLaws I) (m : M) (p : Cp
   -- a poll of the call of t that took the CPU to r, which recorded the result
   module _ (live : stops_at I p ≡ None) (t : Tid) (call : Call) (chose : chosen (threads_in (I.local p.part)) p.guests.items ≡ Polls t call)
       (free : begins_at (guest_at p.guests.items t.0) ≡ true → length p.trace.items + begun_count p.guests.items < p.limit)
-      (n : M) (r : Cpu P M) (told : Option ReplyKind) (polled_so : PolledAt I ipc_plan t call p.part m r.part n told) (number : r.number ≡ p.number)
+      (n : M) (r : Cpu P M) (abstract_answer : Option ReplyKind) (polled_so : PolledAt I ipc_plan t call p.part m r.part n abstract_answer)
+      (number : r.number ≡ p.number)
       (limit : r.limit ≡ p.limit)
       (guests_is : r.guests.items ≡ with_guest p.guests.items t.0
-      (λ g. polled g ((call_state_of (I.local r.part).call_states t).effect) (answer_in (I.local r.part).call_states t told)))
+      (λ g. polled g ((call_state_of (I.local r.part).call_states t).effect) (answer_in (I.local r.part).call_states t abstract_answer)))
       (trace_is : r.trace.items ≡ p.trace.items
       ++ entries_of p.number t (buffer_of call) (fresh_at (guest_at p.guests.items t.0) ((call_state_of (I.local r.part).call_states t).effect)))
       (capacity_is : vec_capacity p.trace ≤ vec_capacity r.trace) where
@@ -71,7 +72,7 @@ module _ {P L M : Type 0} {I : Ghosts P L M} (laws : PartLaws I) (m : M) (p : Cp
       guests = r.guests.items;
       trace = r.trace.items;
       capacity = vec_capacity r.trace;
-      answer = answer_in (I.local r.part).call_states t told;
+      answer = answer_in (I.local r.part).call_states t abstract_answer;
       acts = acts_for cpu;
       home = runs_home cpu t (polls_at (valid_cpu cpu.is) t call chose).runs;
       called = rw cpu.number at (polled_so.called there);
@@ -90,12 +91,13 @@ module _ {P L M : Type 0} {I : Ghosts P L M} (laws : PartLaws I) (m : M) (p : Cp
       guests = r.guests.items;
       trace = r.trace.items;
       new = I.acts n;
-      result = answer_in (I.local r.part).call_states t told;
+      result = answer_in (I.local r.part).call_states t abstract_answer;
       known = hand_preserved (homes_in (I.opening m)) (homes_in (I.opening n)) (I.cpu_of r.part) (I.moves n) (threads_in (I.local r.part))
           (ap homes_in polled_so.framed.stays.opening)
           (laws.stands r.part n polled_so.framed.coupled) (laws.moves_legal n (I.cpu_of r.part) (laws.own_cpu r.part n polled_so.framed.coupled));
       follows = fifo_follows (λ d. I.ActsFor m d) (I.opening m) (homes_in (I.opening m)) (length (caps_in (I.opening m))) (I.cpu_of p.part) p.number t call
-          (I.local p.part) (I.local r.part) (I.acts m) (I.acts n) (answer_in (I.local r.part).call_states t told) cpu.number there (polled_so.follows step);
+          (I.local p.part) (I.local r.part) (I.acts m) (I.acts n) (answer_in (I.local r.part).call_states t abstract_answer) cpu.number there
+          (polled_so.follows step);
       ended_is = (polled_so.runs there).ended;
       under_way_is = polled_so.under_way there;
       guests_is = guests_is;
@@ -106,10 +108,10 @@ module _ {P L M : Type 0} {I : Ghosts P L M} (laws : PartLaws I) (m : M) (p : Cp
     went : GuestsWent p.number p.guests.items p.trace.items r.guests.items r.trace.items
     went =
         let polls = polls_at (valid_cpu cpu.is) t call chose in
-        guest_calls t polls.guest call ((call_state_of (I.local r.part).call_states t).effect) (answer_in (I.local r.part).call_states t told) polls.at
-        polls.asks
-        (replies_so call (call_state_of (I.local r.part).call_states t) (answer_in (I.local r.part).call_states t told) (polled_so.called there).answers)
-        guests_is
+        guest_calls t polls.guest call ((call_state_of (I.local r.part).call_states t).effect) (answer_in (I.local r.part).call_states t abstract_answer)
+        polls.at polls.asks
+        (replies_so call (call_state_of (I.local r.part).call_states t) (answer_in (I.local r.part).call_states t abstract_answer)
+        (polled_so.called there).answers) guests_is
         (trace_is
         ∙ ap (λ (o : Option Guest). p.trace.items
         ++ entries_of p.number t (buffer_of call) (fresh_at o ((call_state_of (I.local r.part).call_states t).effect))) polls.at)
@@ -222,20 +224,22 @@ module _ {P L M : Type 0} {I : Ghosts P L M} (laws : PartLaws I) (m : M) (p : Cp
 
   -- consecutive polls of the call and of its lock that took the CPU to r, which recorded the last
   -- result, are as many steps
-  pub call_runs : {k : ℕ} {q : P} {n : M} {told : Option ReplyKind} → PolledOnAt I ipc_plan t call p.part m k q n told → (r : Cpu P M) → r.part ≡ q
+  pub call_runs : {k : ℕ} {q : P} {n : M} {abstract_answer : Option ReplyKind} → PolledOnAt I ipc_plan t call p.part m k q n abstract_answer → (r : Cpu P M)
+      → r.part ≡ q
       → r.number ≡ p.number → r.limit ≡ p.limit
-      → r.guests.items ≡ with_guest p.guests.items t.0 (λ g. polled g (had_in r.part) (answer_in (I.local r.part).call_states t told))
+      → r.guests.items ≡ with_guest p.guests.items t.0 (λ g. polled g (had_in r.part) (answer_in (I.local r.part).call_states t abstract_answer))
       → r.trace.items ≡ p.trace.items ++ entries_of p.number t (buffer_of call) (fresh_at (guest_at p.guests.items t.0) (had_in r.part))
       → vec_capacity p.trace ≤ vec_capacity r.trace → RunsAt I m p k n r
-  call_runs (PolledOn.once {n = n} {told = told} one) r part number limit guests trace capacity =
-      one_run (poll_steps laws m p cpu live t call chose free n r told (subst (λ (o : P). PolledAt I ipc_plan t call p.part m o n told) (sym part) one)
+  call_runs (PolledOn.once {n = n} {abstract_answer = abstract_answer} one) r part number limit guests trace capacity =
+      one_run (poll_steps laws m p cpu live t call chose free n r abstract_answer
+      (subst (λ (o : P). PolledAt I ipc_plan t call p.part m o n abstract_answer) (sym part) one)
       number limit guests trace capacity)
-  call_runs (PolledOn.again {q = q} {n = n} {o = o} {told = told} on quiet last) r part number limit guests trace capacity =
+  call_runs (PolledOn.again {q = q} {n = n} {o = o} {abstract_answer = abstract_answer} on quiet last) r part number limit guests trace capacity =
       let amid : RunsAt I m p _ n (between q) = call_runs on (between q) refl refl refl refl (trace_between q quiet) (omega arith) in
       RunsAt.then_step amid (poll_steps laws n (between q) (runs_layered laws cpu amid) (live_between q quiet) t call (chose_between q quiet)
       (free_between q quiet) o r
-      told (subst (λ (x : P). PolledAt I ipc_plan t call q n x o told) (sym part) last) number limit
-      (guests ∙ guests_between q quiet (had_in r.part) (answer_in (I.local r.part).call_states t told))
+      abstract_answer (subst (λ (x : P). PolledAt I ipc_plan t call q n x o abstract_answer) (sym part) last) number limit
+      (guests ∙ guests_between q quiet (had_in r.part) (answer_in (I.local r.part).call_states t abstract_answer))
       (trace ∙ ap (λ (f : Option Effect). p.trace.items ++ entries_of p.number t (buffer_of call) f) (fresh_same q quiet (had_in r.part))) capacity)
   call_runs (PolledOn.looks {q = q} {n = n} {o = o} on quiet last) r part number limit guests trace capacity =
       let amid : RunsAt I m p _ n (between q) = call_runs on (between q) refl refl refl refl (trace_between q quiet) (omega arith) in

@@ -1,17 +1,18 @@
 -- The steps in which no call continues: an instruction that shares nothing, and the passes
 -- (scheduling operations).
-use Rattle.std.proofs.Common.{◌≡◌, ◌≢◌, ◌⊎◌, inl, inr, ℕ, ◌+◌, ◌<◌, ◌==◌, Bool, true, false, List, [], ◌∷◌, ◌++◌, length, Option, Some, None, option_map, refl}
-use Rattle.std.{proofs.{Common.{ap, sym, ◌∙◌, subst, arith, reverse, slice_set}, lemmas.{Bool.{cases_eq, ne_eqb}, List.length-set}}, specs.List.AllByRecursion}
+use Rattle.std.proofs.Common.{◌≡◌, ◌≢◌, ◌⊎◌, inl, inr, ℕ, ◌+◌, ◌<◌, ◌==◌, Bool, true, false, List, [], ◌∷◌, ◌++◌, length, Option, Some, None, option_map}
+use Rattle.std.proofs.{Common.{option_to_list, refl, ap, sym, ◌∙◌, subst, arith, reverse, slice_set}, lemmas.{Bool.{cases_eq, ne_eqb}, List.length-set}}
+use Rattle.std.specs.List.{AllByRecursion}
 use Rattle.{event_log.specs.declared.{entries.Entry.Entry, ids.Tid.Tid}, thread_blocks.specs.Queues.is_in}
 use Rattle.guest.{specs.{declared.instructions.Instruction.Instruction, State.State}, proofs.CallsLemmas.{calls-local_is, calls-yield}}
 use Rattle.layer_traits.specs.declared.{calls.{Call.Call, Effect.Effect}, passes.Pass.{Pass, TheVariants.{Switch, YieldNow, Drain, MakeReady, End}}}
-use Rattle.layer_traits.specs.{Threads.{Passes.{MayPass, as_list, pass_after}, Places.{Threads, home_of, one_if}}, Layers.BufferLaw.{Calling, UnderWay}}
-use Rattle.{layer_traits.specs.Layers.BufferLaw.{Passing, begun_of, call_state_of}, cpu.specs.declared.cpus.Choice.TheVariants.{Passes, Computes}}
-use Rattle.cpu.specs.declared.guests.{Guest.Guest, GuestStage.{GuestStage, TheVariants.Idle}, NextAction.{NextAction, TheVariants.{Finish, PassOn, Compute}}}
-use Rattle.cpu.specs.{declared.guests.NextAction.TheVariants.Calls, Guests.{HasCome, HasComeIn, after_pass, computed, is_begun, is_calling, is_ended, passed}}
-use Rattle.cpu.specs.{Guests.{todo_at, todo_of}, Cpus.{AllFollow, AreOver, IsCpu, IsOfHome, NamesBelow, begun_count, chosen, chosen_at, chosen_by, chosen_for}}
-use Rattle.cpu.specs.Cpus.{chosen_idle, chosen_todo, under_way_of, guest_at, is_begun_guest, of_cpu, of_thread, passed_by, with_guest}
-use Rattle.cpu.proofs.{ListFacts.GuestLists.{with_each, at_other, at_same, count_with, guest_within}, CpuSteps.CpuStates.ValidCpu}
+use Rattle.layer_traits.specs.{Threads.{Passes.{MayPass, pass_after}, Places.{Threads, home_of, one_if}}, Layers.BufferLaw.{Calling, UnderWay, Passing}}
+use Rattle.{layer_traits.specs.Layers.BufferLaw.{begun_of, call_state_of}, cpu.specs.declared.{cpus.Choice.TheVariants.{Passes, Computes}, guests.Guest.Guest}}
+use Rattle.cpu.specs.declared.guests.{GuestStage.{GuestStage, TheVariants.Idle}, NextAction.{NextAction, TheVariants.{Finish, PassOn, Compute, Calls}}}
+use Rattle.cpu.specs.{Guests.{HasCome, HasComeIn, after_pass, computed, is_begun, is_calling, is_ended, passed, todo_at, todo_of}, Cpus.{AllFollow, AreOver}}
+use Rattle.cpu.specs.Cpus.{IsCpu, IsOfHome, NamesBelow, begun_count, chosen, chosen_at, chosen_by, chosen_for, chosen_idle, chosen_todo, under_way_of, guest_at}
+use Rattle.cpu.{specs.Cpus.{is_begun_guest, of_cpu, of_thread, passed_by, with_guest}, proofs.ListFacts.GuestLists.{with_each, at_other, at_same, count_with}}
+use Rattle.cpu.proofs.{ListFacts.GuestLists.guest_within, CpuSteps.CpuStates.ValidCpu}
 use Rattle.guest.specs.declared.instructions.Instruction.TheVariants as ins
 
 -- an instruction that requests no call: the guest is in none
@@ -229,7 +230,7 @@ module _ (cpu : ValidCpu) where
       (passed_by o guests End) trace limit capacity) (sym runs) (guest_goes t g (after_pass End) seen2 (pass_after End queue local) None at same refl
       (sym free.1)
       (grind (arith, finish_exit, follows.1, asks)) (λ over. refl)
-      (λ u other over. in_before u t local.ended other (subst (λ (o : Option Tid). is_in u (local.ended ++ as_list o) ≡ true) runs over))
+      (λ u other over. in_before u t local.ended other (subst (λ (o : Option Tid). is_in u (local.ended ++ option_to_list o) ≡ true) runs over))
       (λ d none. absurd (cc none)) (λ u at. absurd (cc at)))
 
   pub noted_done : (pass : Pass) (queue : List Tid) (seen2 : List Entry) (own2 : Threads) (under_way2 : Option UnderWay) (guests2 : List (Option Guest))

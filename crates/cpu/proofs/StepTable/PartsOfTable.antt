@@ -5,8 +5,8 @@ use Rattle.std.specs.Prelude.{slice_get}
 use Rattle.event_log.specs.{declared.ids.{BufId.BufId, CpuId.CpuId, LockId.{LockId, TheVariants.{Buffer as AtBuffer, Pending}}, Tid.Tid}, Actions.Action}
 use Rattle.event_log.{specs.{Buffers.{items_of, IsAllowedEffect}, Runs.is_closed, Sections.{block_after, sections_in}}, proofs.Renaming.sections_in_renamed}
 use Rattle.layer_traits.specs.{Views.Acted.{ItemsAre, MovesAre, guarded, owner_after}, Blocks.BufferEffects.contents_of, Threads.Places.pending_by}
-use Rattle.{layer_traits.proofs.PlanRenaming.block_viewed, cpu.specs.{Claims.{CpuView, SystemView, waiters_by, buffer_at, no_waiters}, Sound.IsSetupFor}}
-use Rattle.cpu.specs.{Sound.SoundByTable, Table.{Blocks.{OfPending, stands_in}, Edits.{edited, table_kernel, on_side}, Setups.SystemConfig}}
+use Rattle.{layer_traits.proofs.PlanRenaming.block_viewed, cpu.specs.Claims.{CpuView, SystemView, waiters_by, buffer_at, no_waiters}}
+use Rattle.cpu.specs.{Sound.{IsSetupFor, SoundByTable}, Table.{Blocks.{OfPending, stands_in}, Edits.{edited, table_kernel, on_side}, Setups.SystemConfig}}
 use Rattle.cpu.specs.{Table.{Setups.{opening as table_opening, opening_buffer}, Steps.block_at}, Tables.bare, Observed.{BufferIsObserved, HasBuffer}}
 use Rattle.cpu.specs.Tower.{Composed.{OpensAs, named}, Views.{TowerBlock, TowerName, answer_view, buffer_view, name_of, tower, view}}
 use Rattle.cpu.proofs.{ListFacts.ListReads.listed_there, StepTable.ReachedSystems.{Observed, shown_in}, Tower.{Polls.opens_alike, SectionViews.tables_agree}}
@@ -17,7 +17,8 @@ pub block_read : (setup : SystemConfig) (opening : LockId → Option TowerBlock)
 block_read setup opening acts lock opens =
     ap (λ l. block_after edited (table_opening setup) lock l) (sections_in_renamed name_of acts)
     ∙ sym (opens_alike (λ l. option_map view (opening l)) (table_opening setup) lock opens (map _ (sections_in acts))) ∙ block_viewed tower table_kernel
-    (record { name = name_of; view = view; told = answer_view; edits = tables_agree.edits; answers = tables_agree.answers }) opening lock (sections_in acts)
+    (record { name = name_of; view = view; abstract_answer = answer_view; edits = tables_agree.edits; answers = tables_agree.answers })
+    opening lock (sections_in acts)
 
 module _ (setup : SystemConfig) (m : Observed) (c : CpuId) (opening : LockId → Option TowerBlock) (opens : OpensAs (bare m.homes m.caps) c opening)
     (caps_are : setup.caps ≡ m.caps) (are : MovesAre opening m.acts m.moves m.wait_lists) where
@@ -40,15 +41,15 @@ module _ (setup : SystemConfig) (m : Observed) (c : CpuId) (opening : LockId →
     has_buffer b within held =
         let there = buffer_read (buffer_at b) ∙ (grind (arith, held.there)) in
         let waiters = listed_there (waiters_by m.wait_lists) (length m.caps) b no_waiters within in
-        let told : BufferIsObserved s b (buffer_view held.lock) = grind (arith, listed_there, waiters) in
+        let observed : BufferIsObserved s b (buffer_view held.lock) = grind (arith, listed_there, waiters) in
         record {
           buffer = buffer_view held.lock;
           there = there;
-          told = told;
+          observed = observed;
           awake = record {
             on = λ side free t m is_front waits e asks allowed.
-                (sound.awake setup is (buffer_at b) (buffer_view held.lock) there).on side (sym told.owner ∙ free) t m is_front
-                (subst (λ (l : List Tid). stands_in t l ≡ true) (λ i. on_side side (told.receivers i) (told.senders i)) waits) e asks
-                (subst (λ x. x) (λ i. IsAllowedEffect e (told.closed i) (told.capacity i) (told.items i) m) allowed);
+                (sound.awake setup is (buffer_at b) (buffer_view held.lock) there).on side (sym observed.owner ∙ free) t m is_front
+                (subst (λ (l : List Tid). stands_in t l ≡ true) (λ i. on_side side (observed.receivers i) (observed.senders i)) waits) e asks
+                (subst (λ x. x) (λ i. IsAllowedEffect e (observed.closed i) (observed.capacity i) (observed.items i) m) allowed);
           };
         }

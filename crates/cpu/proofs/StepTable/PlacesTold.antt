@@ -68,17 +68,17 @@ module _ (s : SystemView) (agree : MovesAgree s) (lines : BufId → WaitList →
       let lies = asleep t b Sleepers here in
       let has = buffers b.0 lies.0 in
       subst (λ (x : Place). IsPlaceByTable setup (whole_of s) t x) (same_Some (place.LockSleeper b) at is)
-      (has.buffer, has.there, ap (is_in t) (sym has.told.sleepers) ∙ ap (λ (x : Waiters). is_in t x.sleepers) (waiters_of b.0 lies.0) ∙ lies.1)
+      (has.buffer, has.there, ap (is_in t) (sym has.observed.sleepers) ∙ ap (λ (x : Waiters). is_in t x.sleepers) (waiters_of b.0 lies.0) ∙ lies.1)
   queue_so t (Asleep (At (lock.Buffer b) Receivers)) at here is =
       let lies = asleep t b Receivers here in
       let has = buffers b.0 lies.0 in
       subst (λ (x : Place). IsPlaceByTable setup (whole_of s) t x) (same_Some (place.WaitRecv b) at is)
-      (has.buffer, has.there, ap (is_in t) (sym has.told.receivers) ∙ ap (λ (x : Waiters). is_in t x.receivers) (waiters_of b.0 lies.0) ∙ lies.1)
+      (has.buffer, has.there, ap (is_in t) (sym has.observed.receivers) ∙ ap (λ (x : Waiters). is_in t x.receivers) (waiters_of b.0 lies.0) ∙ lies.1)
   queue_so t (Asleep (At (lock.Buffer b) Senders)) at here is =
       let lies = asleep t b Senders here in
       let has = buffers b.0 lies.0 in
       subst (λ (x : Place). IsPlaceByTable setup (whole_of s) t x) (same_Some (place.WaitSend b) at is)
-      (has.buffer, has.there, ap (is_in t) (sym has.told.senders) ∙ ap (λ (x : Waiters). is_in t x.senders) (waiters_of b.0 lies.0) ∙ lies.1)
+      (has.buffer, has.there, ap (is_in t) (sym has.observed.senders) ∙ ap (λ (x : Waiters). is_in t x.senders) (waiters_of b.0 lies.0) ∙ lies.1)
   queue_so t w at here is = absurd (cc is)
 
   pub place_read : (t : Tid) (at : Place) → t.0 < length s.homes → IsPlaceOf s t at → IsPlaceByTable setup (whole_of s) t at

@@ -1,10 +1,10 @@
 -- A poll of a pass, and an instruction that shares nothing, are steps of the table, and the CPU
 -- stays as the table requires.
 use Rattle.std.proofs.Common.{◌≡◌, ℕ, ◌<◌, Bool, true, false, ◌||◌, List, [], ◌∷◌, ◌++◌, length, slice_get, slice_set, Option, Some, None, IsSome, option_map}
-use Rattle.std.proofs.{Common.{refl, ap, sym, ◌∙◌, subst, arith}, lemmas.List.map-set, Math.Bool.or-true}
+use Rattle.std.proofs.{Common.{option_to_list, refl, ap, sym, ◌∙◌, subst, arith}, lemmas.List.map-set, Math.Bool.or-true}
 use Rattle.layer_traits.specs.{Views.OwnParts.threads_in, declared.{calls.Call.Call, passes.Pass.{Pass, TheVariants.{Switch, YieldNow, Drain, MakeReady, End}}}}
 use Rattle.layer_traits.specs.{declared.{steps.{Reason.Reason, Step.TheVariants.{Stepped, Halted}}, call_states.CallState.CallState}, Polling.Along.IsStep}
-use Rattle.layer_traits.specs.{Polling.Plans.{Left, Follows, is_in_section}, Threads.{Passes.{IsLocalPass, as_list, pass_after, switched}, Places.Threads}}
+use Rattle.layer_traits.specs.{Polling.Plans.{Left, Follows, is_in_section}, Threads.{Passes.{IsLocalPass, pass_after, switched}, Places.Threads}}
 use Rattle.layer_traits.specs.Layers.BufferLaw.{Buffering, UnderWay, Passing, begun_of, fifo_pass_plan, still_passing, call_state_of}
 use Rattle.event_log.{specs.{declared.ids.{CpuId.CpuId, Tid.Tid}, Actions.{Action, phase}}, proofs.{Renaming.phase_renamed, BoolLemmas.none_of}}
 use Rattle.guest.specs.{declared.instructions.Instruction.Instruction, State.{State, after_local, after_yield, at_start, next_of}}
@@ -153,7 +153,7 @@ module _ (cpu : TabledCpu) where
             subst (λ x. x) (λ i. IsTabled homes caps number own2 under_way2 (passed_by (sym runs i) guests (sym same i)) opening) (tabled_with cpu t g passed
             own2 under_way2 at part2 (λ over. abbrev_same t _ now refl (tabled.ends t g at over)) (λ u other before. abbrev_same u _ now refl before) quick2)
         by_case End same (finishes t g runs has at asks) now =
-            let ended_is = ap (λ (y : Threads). y.ended) now ∙ ap (λ o. (threads_in local).ended ++ as_list o) runs in
+            let ended_is = ap (λ (y : Threads). y.ended) now ∙ ap (λ o. (threads_in local).ended ++ option_to_list o) runs in
             subst (λ x. x) (λ i. IsTabled homes caps number own2 under_way2 (passed_by (sym runs i) guests (sym same i)) opening)
             (tabled_with cpu t g guest_ended own2 under_way2 at part2 (λ over. subst (λ l. is_in t l ≡ true) (sym ended_is) (pushed_in t t
             (threads_in local).ended

@@ -148,11 +148,12 @@ quiet_still s told agree reached quiet = record {
   stuck = stuck;
   refused = λ setup is p u live e asks b m within of next allowed.
       let has = told.buffers setup is b.0 within in
-      (stuck setup is).effects p u live e asks b m of next has.buffer has.there (rw (← has.told.capacity, ← has.told.items, ← has.told.closed) allowed);
+      (stuck setup is).effects p u live e asks b m of next has.buffer has.there
+      (rw (← has.observed.capacity, ← has.observed.items, ← has.observed.closed) allowed);
   unowned = λ setup is b within.
-      let has = told.buffers setup is b within in has.told.owner ∙ ((stuck setup is).unowned (buffer_at b) has.buffer has.there).0;
+      let has = told.buffers setup is b within in has.observed.owner ∙ ((stuck setup is).unowned (buffer_at b) has.buffer has.there).0;
   awake = λ setup is b within.
-      let has = told.buffers setup is b within in has.told.sleepers ∙ ((stuck setup is).unowned (buffer_at b) has.buffer has.there).1;
+      let has = told.buffers setup is b within in has.observed.sleepers ∙ ((stuck setup is).unowned (buffer_at b) has.buffer has.there).1;
   nobody = λ setup is t b within at.
       let there = told.places setup is t (place.LockSleeper b) within at in
       absurd (cc (sym (ap (λ (l : List Tid). is_in t l) ((stuck setup is).unowned b there.0 there.1).1) ∙ there.2));

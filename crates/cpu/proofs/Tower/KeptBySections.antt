@@ -1,20 +1,19 @@
 -- The states of all threads in a part stay allowed under each section of a call, while the hand is
 -- empty.
-use Rattle.std.proofs.Common.{◌≡◌, ◌≢◌, ◌⊎◌, inl, inr, ℕ, Bool, true, false, List, [], ◌∷◌, ◌++◌, length, slice_get, slice_set, Option, Some, None, refl, sym}
-use Rattle.std.proofs.{Common.{subst, arith}, lemmas.{List.{get_or-set_same, get_or-set_other, length-set}, Bool.{cases_eq, eqb-false}}}
-use Rattle.event_log.specs.declared.ids.{BufId.BufId, CpuId.CpuId, LockId.{TheVariants.Buffer, LockId}, Tid.Tid, TheConstants.THREADS}
-use Rattle.{thread_blocks.specs.Queues.first, layer_traits.specs.declared.{calls.Effect.Effect, locked.Side.{Side, TheVariants.{Receivers, Senders}}}}
+use Rattle.std.proofs.Common.{◌≡◌, ◌≢◌, ◌⊎◌, inl, inr, ℕ, Bool, true, false, List, [], ◌∷◌, length, slice_get, slice_set, Option, Some, None, refl, sym, subst}
+use Rattle.std.proofs.{Common.arith, lemmas.{List.{get_or-set_same, get_or-set_other, length-set}, Bool.{cases_eq, eqb-false}}}
+use Rattle.layer_traits.specs.{Threads.{RunQueue.joins, Places.is_cpu}, declared.{calls.Effect.Effect, locked.Side.{Side, TheVariants.{Receivers, Senders}}}}
 use Rattle.layer_traits.specs.declared.{conditions.CvReply.CvReply, call_states.{Stage.Stage, CallState.CallState}, buffer_edits.BufferReply.BufferReply}
 use Rattle.layer_traits.specs.{declared.buffer_edits.BufferReply.TheVariants.NotYet, Blocks.BufferBlocks.{BufferState, buffer_answer}}
 use Rattle.layer_traits.specs.{Blocks.BufferProtocol.buffer_rules, Layers.{QLockLaw.slept_for, QLocking.{LockState, lock_answer}, BufferLaw.Buffering}}
-use Rattle.layer_traits.specs.{Layers.BufferLaw.{buffer_of, first_of, no_call, call_state_of, try_of, section_at}, Threads.Places.is_cpu, Polling.Plans.Left}
-use Rattle.{layer_traits.specs.Polling.Plans.{Plan, Act}, cpu.specs.{Table.Setups.SystemConfig, Tower.Views.{TowerAnswer, TowerBlock, TowerName, TowerReply}}}
-use Rattle.cpu.specs.Tower.{Views.tower, Privates.tid, Positions.{IsPart, MayStand, inside, outside}, Composed.{FitsStage, IsKind, IsLined, IsUsed, CallStands}}
-use Rattle.cpu.specs.Tower.Composed.{asks, was_handed, enters, tries, waits as stands_waits, was_woken, asks_anew, was_handed_again, signals, signals_own}
-use Rattle.cpu.{specs.Tower.Composed.{releases, has_signalled, has_signalled_own, has_released}, proofs.Tower.{ChangedThread.own_at, Callers.Site}}
-use Rattle.cpu.proofs.Tower.SectionLines.{HasHad, Draws, Shuts, Tried, first_answer, try_answer, shut_effect, call_state, react, lift, waking, asked_out}
-use Rattle.cpu.proofs.Tower.SectionLines.{did_out, signal_out, left_out, over, plan, effect_by, effected_state, left_on, left_gone, reacted, waited}
-use Rattle.cpu.proofs.Tower.SectionLines.{section_planned}
+use Rattle.layer_traits.specs.{Layers.BufferLaw.{buffer_of, first_of, no_call, call_state_of, try_of, section_at}, Polling.Plans.{Left, Plan, Act}}
+use Rattle.event_log.specs.declared.ids.{BufId.BufId, CpuId.CpuId, LockId.{TheVariants.Buffer, LockId}, Tid.Tid, TheConstants.THREADS}
+use Rattle.{thread_blocks.specs.Queues.first, cpu.specs.{Table.Setups.SystemConfig, Tower.Views.{TowerAnswer, TowerBlock, TowerName, TowerReply, tower}}}
+use Rattle.cpu.specs.Tower.{Privates.tid, Positions.{IsPart, MayStand, inside, outside}, Composed.{FitsStage, IsKind, IsLined, IsUsed, CallStands, asks}}
+use Rattle.cpu.specs.Tower.Composed.{was_handed, enters, tries, waits as stands_waits, was_woken, asks_anew, was_handed_again, signals, signals_own, releases}
+use Rattle.cpu.{specs.Tower.Composed.{has_signalled, has_signalled_own, has_released}, proofs.Tower.{ChangedThread.own_at, Callers.Site, SectionLines.HasHad}}
+use Rattle.cpu.proofs.Tower.SectionLines.{Draws, Shuts, Tried, first_answer, try_answer, shut_effect, call_state, react, lift, waking, asked_out, did_out}
+use Rattle.cpu.proofs.Tower.SectionLines.{signal_out, left_out, over, plan, effect_by, effected_state, left_on, left_gone, reacted, waited, section_planned}
 use Rattle.layer_traits.specs.declared.queue_edits.QueueEdit.TheVariants as queue
 use Rattle.layer_traits.specs.declared.call_states.Stage.TheVariants as at
 use Rattle.layer_traits.specs.declared.queue_edits.QueueBlock.TheVariants as block
@@ -169,14 +168,14 @@ module _ (call_site : Site) (f : Effect) (had : HasHad call_site (Some f))
   signals_by v None = runs_on call_site (Some f) had others ready at.SignalsOwn (signals_own f) tt
   signals_by v (Some u) =
       woke_on call_site (Some f) had others at.Signals (signal_out v (Some u)) u
-      (runs_on call_site (Some f) had others (ready ++ u ∷ []) at.SignalsOwn (signals_own f) tt)
+      (runs_on call_site (Some f) had others (joins (u ∷ []) ready) at.SignalsOwn (signals_own f) tt)
       (sends_on call_site (Some f) had others u (signal_out v (Some u)) at.Signals (has_signalled u v f) tt) (is_cpu c (slice_get setup.homes u.0))
 
   own_signals_by : (v : CvReply BufferReply) (o : Option Tid) → KeepsSome at.SignalsOwn (signal_out v o)
   own_signals_by v None = runs_on call_site (Some f) had others ready at.Releases (releases f) tt
   own_signals_by v (Some u) =
       woke_on call_site (Some f) had others at.SignalsOwn (signal_out v (Some u)) u
-      (runs_on call_site (Some f) had others (ready ++ u ∷ []) at.Releases (releases f) tt)
+      (runs_on call_site (Some f) had others (joins (u ∷ []) ready) at.Releases (releases f) tt)
       (sends_on call_site (Some f) had others u (signal_out v (Some u)) at.SignalsOwn (has_signalled_own u v f) tt) (is_cpu c (slice_get setup.homes u.0))
 
   returned_now : (ready2 : List Tid) → IsPart (own_at (Some t) None ready2 ended None slept waiting (slice_set call_states t.0 (over call_site f had)))
@@ -185,7 +184,7 @@ module _ (call_site : Site) (f : Effect) (had : HasHad call_site (Some f))
   releases_by : (o : Option Tid) → KeepsSome at.Releases (left_out o)
   releases_by None = returned_now ready
   releases_by (Some u) =
-      woke_on call_site (Some f) had others at.Releases (left_out (Some u)) u (returned_now (ready ++ u ∷ []))
+      woke_on call_site (Some f) had others at.Releases (left_out (Some u)) u (returned_now (joins (u ∷ []) ready))
       (sends_on call_site (Some f) had others u (left_out (Some u)) at.Releases (has_released u f) tt) (is_cpu c (slice_get setup.homes u.0))
 
 -- Each stage.

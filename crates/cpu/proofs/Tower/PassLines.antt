@@ -1,12 +1,12 @@
 -- The passes from thread to thread are lines of the table, or steps of it without an action.
 use Rattle.std.proofs.Common.{◌≡◌, ◌≢◌, ℕ, ◌+◌, ◌<◌, true, false, ◌&&◌, List, [], ◌∷◌, ◌++◌, length, slice_get, slice_set, Option, Some, None, IsSome, refl, ap}
 use Rattle.std.proofs.{Common.{sym, ◌∙◌, arith}, lemmas.{Bool.ne_eqb, List.append-nil}, Math.Bool.or-true}
+use Rattle.layer_traits.specs.{Threads.RunQueue.joins, declared.{passes.Pass.Pass, call_states.CallState.CallState}, Layers.QLockLaw.slept_for}
+use Rattle.layer_traits.specs.{Layers.BufferLaw.{Buffering, fifo_pass_plan, no_call, call_state_of}, Polling.Plans.Left}
 use Rattle.{event_log.specs.declared.{entries.Entry.Entry, ids.{BufId.BufId, CpuId.CpuId, Tid.Tid}}, guest.specs.State.{State, after_yield, at_start, next_of}}
-use Rattle.{thread_blocks.{specs.Queues.is_in, proofs.{Members.same_tid_self, Distinct.pushed_in}}, layer_traits.specs.declared.passes.Pass.Pass}
-use Rattle.layer_traits.specs.{declared.call_states.CallState.CallState, Layers.{QLockLaw.slept_for, BufferLaw.{Buffering, fifo_pass_plan, no_call}}}
-use Rattle.{layer_traits.specs.{Layers.BufferLaw.call_state_of, Polling.Plans.Left}, cpu.specs.Table.Setups.{SystemConfig, CpuLocal, Thread, program_of}}
-use Rattle.cpu.specs.{Table.{Setups.thread_at, Choice.{after_by, after_section, ends, with_state}}, Tower.{Views.{TowerAnswer, answer_view}, Privates.state_at}}
-use Rattle.cpu.{specs.Tower.{Privates.{cpu_local_of, cpu_local_passed, thread_from, thread_of, tid}, Composed.IsLine}, proofs.Tower.Callers.Runner}
+use Rattle.{thread_blocks.{specs.Queues.is_in, proofs.{Members.same_tid_self, Distinct.pushed_in}}, cpu.specs.Table.Setups.{SystemConfig, CpuLocal, Thread}}
+use Rattle.cpu.specs.{Table.{Setups.{program_of, thread_at}, Choice.{after_by, after_section, ends, with_state}}, Tower.Views.{TowerAnswer, answer_view}}
+use Rattle.cpu.{specs.Tower.{Privates.{state_at, cpu_local_of, cpu_local_passed, thread_from, thread_of, tid}, Composed.IsLine}, proofs.Tower.Callers.Runner}
 use Rattle.cpu.proofs.Tower.{ChangedThread.{changed, numbered_changed, numbered_same, own_at, part_at, parts, threads_at}, SectionLines.react_in}
 use Rattle.cpu.proofs.Tower.{HandLines.home_there, Chains.put_same, BegunPolls.thread_here}
 use Rattle.layer_traits.specs.declared.passes.Pass.TheVariants as pass
@@ -76,7 +76,7 @@ module _ (setup : SystemConfig) (c : CpuId) (guests : List State) (trace : List 
         ≡ after_section setup c p (answer_view (told.Taken pending))
     yielded pending =
         let guest : State = after_yield (next_of (program_of setup t) g) g in
-        let ready2 : List Tid = (ready ++ pending) ++ t ∷ [] in
+        let ready2 : List Tid = joins (t ∷ []) (joins pending ready) in
         (λ i. cpu_local_of (own_at None None ready2 ended None slept waits (put_same call_states t.0 (call_state_of call_states t) no_call refl i))
         (slice_set guests t.0 guest) trace)
         ∙ (changed runner None None None None ready2 None slept waits (call_state_of call_states t) guest trace

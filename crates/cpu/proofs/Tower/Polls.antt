@@ -4,8 +4,8 @@ use Rattle.event_log.specs.{declared.ids.{CpuId.CpuId, LockId.LockId, Tid.Tid}, 
 use Rattle.event_log.{specs.Sections.{Section, block_after, sections_in}, proofs.{Foreign.phase_others, Renaming.{next_action_renamed, others_renamed}}}
 use Rattle.{event_log.proofs.Renaming.phase_renamed, layer_traits.specs.declared.steps.{Reason.Reason, Step.{TheVariants.{Stepped, Halted}, Step}}}
 use Rattle.layer_traits.specs.{Polling.{Along.IsStep, Looks.Tries, Plans.{Left, Acting, Follows, at_give, is_in_section, reply}}, Layers.BufferLaw.Buffering}
-use Rattle.{layer_traits.proofs.{LookLemmas.tries_renamed, PlanRenaming.{map-append, reply_viewed}}, cpu.specs.Table.{Blocks.{Block, Name}, Edits.edited}}
-use Rattle.cpu.specs.Table.{Edits.table_kernel, Setups.{SystemConfig, CpuLocal, opening as table_opening, thread_at, Call as TableCall}, Steps.acting}
+use Rattle.{layer_traits.proofs.{LookLemmas.tries_renamed, PlanRenaming.{map-append, reply_viewed}}, cpu.specs.Table.Blocks.{Block, Name}}
+use Rattle.cpu.specs.Table.{Edits.{edited, table_kernel}, Setups.{SystemConfig, CpuLocal, opening as table_opening, thread_at, Call as TableCall}, Steps.acting}
 use Rattle.cpu.specs.Table.{Steps.{acting_on, after_reply, chosen_step, cpu_step, halted_at, halted_by, step_in}, Choice.{Alone, Choice, Goes, Halts, Ask}}
 use Rattle.cpu.specs.{Table.Choice.{asked, at_call, at_hand, at_ready, choice}, Tower.Views.{TowerBlock, TowerName, answer_view, name_of, tower, view}}
 use Rattle.cpu.{specs.Tower.Composed.{HaltsExactly, HandIsKnown, IsKind, named}, proofs.{ListFacts.ListReads.blocks_keep, Tower.PolledSystem.{Polled, Way}}}
@@ -53,7 +53,7 @@ module _ {A : Type 0} (polled : Polled) (way : Way A polled) (got : Left Bufferi
       ≡ reply table_kernel (table_opening setup) c line.lock (name_of line.name) (named past)
   answer_is =
       reply_viewed tower table_kernel
-      (record { name = name_of; view = view; told = answer_view; edits = tables_agree.edits; answers = tables_agree.answers })
+      (record { name = name_of; view = view; abstract_answer = answer_view; edits = tables_agree.edits; answers = tables_agree.answers })
       opening c line.lock line.name past ∙ ap (λ o. at_give (phase c (named past)) (option_map (table_kernel.answer (name_of line.name)) o))
       (opens_alike (λ l. option_map view (opening l)) (table_opening setup) line.lock (opens line.lock line.used) (sections_in (named past)))
 

@@ -3,26 +3,26 @@
 use Rattle.std.proofs.Common.{◌≡◌, ◌⊎◌, inl, inr, ℕ, ◌<◌, Bool, true, false, List, [], ◌∷◌, ◌++◌, length, slice_get, slice_set, Option, Some, None, IsSome}
 use Rattle.std.proofs.{Common.{is_some, if◌then◌else◌, refl, ap, sym, ◌∙◌, subst, arith, lt-ltb, ◌≢◌}, lemmas.List.{get_or-set_same, get_or-set_other}}
 use Rattle.std.proofs.lemmas.List.{set-get_or}
-use Rattle.event_log.specs.{declared.{entries.Entry.Entry, ids.{BufId.BufId, LockId.TheVariants.Buffer, Tid.Tid, CpuId.CpuId}}, History.same_cpu}
-use Rattle.{event_log.specs.Messages.{Message, no_message}, guest.specs.State.{State, next_of}, thread_blocks.specs.Queues.{is_in, first}}
-use Rattle.layer_traits.{proofs.CountLemmas.same_cpu_sym, specs.declared.calls.{Call.{Call as TowerCall, TheVariants.{Send, Recv, Close}}, Effect.Effect}}
-use Rattle.layer_traits.specs.declared.{calls.Reply.Reply, locked.{QLockReply.QLockReply, QLockCall.TheVariants.Release, Side.{Side, TheVariants.Receivers}}}
-use Rattle.layer_traits.specs.declared.{locked.Side.TheVariants.Senders, conditions.{CvReply.CvReply, CvLeave.TheVariants.Wait}}
+use Rattle.layer_traits.specs.{Threads.{RunQueue.joins, Places.{Threads, is_cpu}}, declared.calls.Call.{Call as TowerCall, TheVariants.{Send, Recv, Close}}}
+use Rattle.layer_traits.specs.declared.{calls.{Effect.Effect, Reply.Reply}, locked.{QLockReply.QLockReply, QLockCall.TheVariants.Release, Side.Side}}
+use Rattle.layer_traits.specs.declared.{locked.Side.TheVariants.{Receivers, Senders}, conditions.{CvReply.CvReply, CvLeave.TheVariants.Wait}}
 use Rattle.layer_traits.specs.declared.buffer_edits.{BufferEdit.BufferEdit, BufferReply.{BufferReply, TheVariants.{Entered, NotYet, Done, WasShut}}}
 use Rattle.layer_traits.specs.declared.call_states.{CallState.CallState, Stage.{Stage, TheVariants.{Idle, Acquires, Enters, Tries, Waits, AcquiresAgain}}}
 use Rattle.layer_traits.specs.{declared.call_states.Stage.TheVariants.{Signals, SignalsOwn, Releases}, Blocks.BufferBlocks.{BufferState, buffer_answer}}
 use Rattle.layer_traits.specs.{Blocks.BufferProtocol.buffer_rules, Layers.BufferLaw.{BufferPlan, Buffering, buffer_of, first_of, going, left_recorded, no_call}}
 use Rattle.layer_traits.specs.Layers.{BufferLaw.{call_state_of, try_of, entry_of, plan_at, reply_of, section_at as call_section}, Conditions.CvCall}
 use Rattle.layer_traits.specs.Layers.{CvLaw.{Waiting, left_waiting}, QLockLaw.{Locking, left_after, slept_for}, QLocking.{LockState, lock_answer, lock_moves}}
-use Rattle.layer_traits.specs.{Layers.{QLocking.{wait_list_asked, asker_report}, SleepLaw.{Sleeping, left_done, sleep_plan}}, Threads.Places.{Threads, is_cpu}}
-use Rattle.{layer_traits.specs.Polling.Plans.{Left, Plan, Now, Act, raised}, cpu.specs.{Guests.after_answer, Table.{Blocks.kind_for, Setups.{Call, Thread}}}}
-use Rattle.cpu.specs.Table.{Setups.{CpuLocal, home_cpu, program_of, thread_at}, Choice.{after_section, at_buffer, with_told, returned_at, section_due, settled}}
-use Rattle.cpu.specs.{Table.Choice.{slept_if, woken}, Tower.Views.{TowerAnswer, TowerBlock, TowerName, TowerReply, answer_view, name_of, tower, report_in}}
-use Rattle.cpu.specs.Tower.Composed.{HandIsKnown, IsKind, IsLine, IsLined, CallStands, FitsStage, asks, enters, tries, waits as stands_waits, asks_anew}
-use Rattle.cpu.specs.Tower.{Composed.{signals, signals_own, releases}, Privates.{asks_in, call_from, state_at, guests_after, call_message, cpu_local_after}}
-use Rattle.cpu.{specs.Tower.Privates.{cpu_local_of, thread_from, trace_after, tid}, proofs.Tower.{Callers.{Site, call_state_at}, ChangedThread.runner_goes}}
-use Rattle.cpu.proofs.Tower.{ChangedThread.{thread_gone, numbered_long, own_at, part_at, parts, threads_at}, SettledAnswers.{asks_for, calling, done_with}}
-use Rattle.cpu.proofs.Tower.SettledAnswers.{from_t, goes_on, recorded_is, put, returns}
+use Rattle.layer_traits.specs.{Layers.{QLocking.{wait_list_asked, asker_report}, SleepLaw.{Sleeping, left_done, sleep_plan}}, Polling.Plans.{Left, Plan, Now}}
+use Rattle.{layer_traits.{specs.Polling.Plans.{Act, raised}, proofs.CountLemmas.same_cpu_sym}, event_log.specs.declared.{entries.Entry.Entry, ids.BufId.BufId}}
+use Rattle.event_log.specs.{declared.ids.{LockId.TheVariants.Buffer, Tid.Tid, CpuId.CpuId}, History.same_cpu, Messages.{Message, no_message}}
+use Rattle.{guest.specs.State.{State, next_of}, thread_blocks.specs.Queues.{is_in, first}, cpu.specs.{Guests.after_answer, Table.Blocks.kind_for}}
+use Rattle.cpu.specs.Table.{Setups.{Call, Thread, CpuLocal, home_cpu, program_of, thread_at}, Choice.{after_section, at_buffer, with_told, returned_at}}
+use Rattle.cpu.specs.{Table.Choice.{section_due, settled, slept_if, woken}, Tower.Views.{TowerAnswer, TowerBlock, TowerName, TowerReply, answer_view, name_of}}
+use Rattle.cpu.specs.Tower.{Views.{tower, report_in}, Composed.{HandIsKnown, IsKind, IsLine, IsLined, CallStands, FitsStage, asks, enters, tries}}
+use Rattle.cpu.specs.Tower.{Composed.{waits as stands_waits, asks_anew, signals, signals_own, releases}, Privates.{asks_in, call_from, state_at, guests_after}}
+use Rattle.cpu.{specs.Tower.Privates.{call_message, cpu_local_after, cpu_local_of, thread_from, trace_after, tid}, proofs.Tower.Callers.{Site, call_state_at}}
+use Rattle.cpu.proofs.Tower.{ChangedThread.{runner_goes, thread_gone, numbered_long, own_at, part_at, parts, threads_at}, SettledAnswers.{asks_for, calling}}
+use Rattle.cpu.proofs.Tower.SettledAnswers.{done_with, from_t, goes_on, recorded_is, put, returns}
 use Rattle.event_log.specs.declared.entries.Kind.TheVariants as kind
 use Rattle.layer_traits.specs.declared.queue_edits.QueueEdit.TheVariants as queue
 use Rattle.layer_traits.specs.declared.queue_edits.QueueAnswer.TheVariants as told
@@ -221,7 +221,7 @@ module _ (call_site : Site) (effect : Option Effect) (is_effect : HasHad call_si
 
   -- with a woken thread whose home CPU is this one, or is not
   abbrev pub waking : Option Tid → Tid → Bool → Threads
-  waking current u b = record { current = current; hand = if b then None else Some u; ready = if b then ready ++ u ∷ [] else ready; ended = ended }
+  waking current u b = record { current = current; hand = if b then None else Some u; ready = if b then joins (u ∷ []) ready else ready; ended = ended }
 
   pub by_home : (u : Tid) (F : Bool → Left Buffering Reply) (H : Bool → CpuLocal) → ((b : Bool) → after (F b) ≡ H b)
       → (HandIsKnown setup (F false).local → IsSome (slice_get setup.homes u.0)) → HandIsKnown setup (F (is_cpu c (slice_get setup.homes u.0))).local
@@ -274,7 +274,7 @@ module _ (call_site : Site) (effect : Option Effect) (is_effect : HasHad call_si
 
   -- a thread that was woken is ready or in the hand, and the call continues or is over
   abbrev pub woke_to : Stage → Tid → Bool → CpuLocal
-  woke_to next u b = settled setup (if b then stands (ready ++ u ∷ []) None (k next) trace else stands ready (Some u) (k next) trace)
+  woke_to next u b = settled setup (if b then stands (joins (u ∷ []) ready) None (k next) trace else stands ready (Some u) (k next) trace)
 
   -- it woke a thread
   pub wakes : (stage next : Stage) (out : QLockReply (CvReply BufferReply)) (u : Tid) → Records stage (waking_out out u) (k next) trace
@@ -322,7 +322,7 @@ module _ (call_site : Site) (effect : Option Effect) (is_effect : HasHad call_si
   gone_so = slept_if true (stands ready None (k AcquiresAgain) trace)
 
   abbrev woken_to : Tid → Bool → CpuLocal
-  woken_to u b = settled setup (if b then record gone_so { ready = ready ++ u ∷ [] } else record gone_so { hand = Some u })
+  woken_to u b = settled setup (if b then record gone_so { ready = joins (u ∷ []) ready } else record gone_so { hand = Some u })
 
   abbrev pub waited : Side → Option Tid → Left Buffering Reply
   waited side o = react Waits (Release (Wait t side)) (Some (told.Answer (wait_out side o)))

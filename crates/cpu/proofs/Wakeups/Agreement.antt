@@ -1,14 +1,14 @@
 -- One CPU's private state against the places and the calls of its threads: the running thread and
 -- the ready threads have this home CPU, the hand holds the thread that it woke, and each call is at
 -- the stage that its visit gives.
-use Rattle.std.proofs.Common.{◌≡◌, ◌+◌, ◌<◌, Bool, true, false, not, ◌&&◌, [], ◌∷◌, ◌++◌, length, Option, Some, None, is_some, nat_lt, if◌then◌else◌, refl, sym}
+use Rattle.std.proofs.Common.{◌≡◌, ℕ, ◌+◌, ◌<◌, Bool, true, false, not, ◌&&◌, [], ◌∷◌, length, Option, Some, None, is_some, nat_lt, if◌then◌else◌, refl, sym}
 use Rattle.std.proofs.{Common.{ap, ◌∙◌, subst, arith}, lemmas.Bool.{and_parts, and_from, and_left, and_right, false_from_ne_true, ltb-true, eqb-false}}
 use Rattle.std.proofs.lemmas.List.{length-set, get_or-set_same, get_or-set_other}
-use Rattle.event_log.{specs.{declared.ids.{CpuId.CpuId, Tid.Tid, BufId.BufId}, History.same_cpu}, proofs.Same.same_cpu_self}
-use Rattle.{thread_blocks.{specs.Queues.same_tid, proofs.Members.{same_tid_self, same_tid_true}}, layer_traits.specs.declared.locked.Side.Side}
+use Rattle.layer_traits.specs.{Threads.{RunQueue.joins, Places.{Where, is_home, is_hand, is_thread, one_if, count_in}}, declared.locked.Side.Side}
 use Rattle.layer_traits.specs.declared.{locked.Side.TheVariants.{Receivers, Senders}, call_states.Stage.{Stage, TheVariants.{Idle, Enters, Tries, Waits}}}
-use Rattle.layer_traits.specs.{declared.call_states.Stage.TheVariants.{AcquiresAgain, Signals, SignalsOwn, Releases}, Threads.Places.{Where, is_home, is_hand}}
-use Rattle.layer_traits.{specs.Threads.Places.{is_thread, one_if, count_in}, proofs.{CountLemmas.{same_tid_sym, count_append}, PlaceLemmas.is_home_true}}
+use Rattle.layer_traits.{specs.declared.call_states.Stage.TheVariants.{AcquiresAgain, Signals, SignalsOwn, Releases}, proofs.CountLemmas.same_tid_sym}
+use Rattle.{layer_traits.proofs.{CountLemmas.count_joins, PlaceLemmas.is_home_true}, event_log.specs.declared.ids.{CpuId.CpuId, Tid.Tid, BufId.BufId}}
+use Rattle.{event_log.{specs.History.same_cpu, proofs.Same.same_cpu_self}, thread_blocks.{specs.Queues.same_tid, proofs.Members.{same_tid_self, same_tid_true}}}
 use Rattle.cpu.specs.Table.{Blocks.side_of_group, Setups.{SystemConfig, Call, Thread, CpuLocal, new_thread, thread_at, with_thread, home_cpu}, Choice.slept_if}
 use Rattle.cpu.{specs.{Table.Choice.woken, Wakeups.Order.{Progress, Begins, HasEntered, WasRefused, Owes}}, proofs.Wakeups.Lists.refuted}
 use Rattle.cpu.proofs.Wakeups.PostsAndVisits.{Waiting, Visit, Outside, In, post_woken, is_local}
@@ -125,9 +125,29 @@ agrees_woken setup c p T P None agrees empty asleep = agrees
 agrees_woken setup c p T P (Some s) agrees empty asleep = by_home (same_cpu (home_cpu setup s) c) refl
   where
     by_home : (here : Bool) → same_cpu (home_cpu setup s) c ≡ here
-        → Agrees setup c (if here then record p { ready = p.ready ++ s ∷ [] } else record p { hand = Some s }) T
+        → Agrees setup c (if here then record p { ready = joins (s ∷ []) p.ready } else record p { hand = Some s }) T
         (λ u. if same_tid s u then post_woken setup c u else P u)
-    by_home true here = grind (arith, and_from, false_from_ne_true, refuted, same_tid_self, count_append, same_tid_true, and_right, and_left, same_tid_sym)
+    by_home true here = record {
+      size = agrees.size;
+      calls = agrees.calls;
+      seats = λ u. sits u (same_tid s u) refl (count_in u (joins (s ∷ []) p.ready)) (count_joins u (s ∷ []) p.ready);
+      hands = λ u. held u (same_tid s u) refl;
+      ends = λ u local_is ended. at_home u local_is ended (same_tid s u) refl;
+    }
+      where
+        sits : (u : Tid) (mine : Bool) → same_tid s u ≡ mine → (n : ℕ) → n ≡ count_in u p.ready + count_in u (s ∷ [])
+            → one_if (is_thread u p.current) + n ≡ one_if (seat setup c u (if mine then post_woken setup c u else P u) (thread_at p u).ended)
+        sits u true is n count = grind (arith, and_from, false_from_ne_true, refuted, same_tid_self, same_tid_true, and_right, and_left, same_tid_sym)
+        sits u false is n count = grind (arith, agrees.seats u, same_tid_sym)
+
+        held : (u : Tid) (mine : Bool) → same_tid s u ≡ mine → is_thread u p.hand ≡ is_hand c (if mine then post_woken setup c u else P u)
+        held u true is = grind (arith, same_tid_true)
+        held u false is = agrees.hands u
+
+        at_home : (u : Tid) → is_local setup c u ≡ true → (thread_at p u).ended ≡ true → (mine : Bool) → same_tid s u ≡ mine
+            → is_home (if mine then post_woken setup c u else P u) ≡ true
+        at_home u local_is ended true is = grind (arith, same_tid_true, refuted)
+        at_home u local_is ended false is = agrees.ends u local_is ended
     by_home false away = grind (arith, agrees, sits, held, at_home)
       where
         sits : (u : Tid) (mine : Bool) → same_tid s u ≡ mine

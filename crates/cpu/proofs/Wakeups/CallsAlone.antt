@@ -2,17 +2,17 @@
 -- another CPU.
 use Rattle.std.proofs.Common.{◌≡◌, ℕ, ◌+◌, ◌<◌, ◌≤◌, Bool, true, false, not, ◌&&◌, List, [], ◌∷◌, ◌++◌, slice_get, Option, Some, None, option_map}
 use Rattle.std.proofs.{Common.{if◌then◌else◌, refl, sym, ap, ◌∙◌, subst, arith}, lemmas.Bool.lt-ltb}
+use Rattle.layer_traits.specs.{Threads.RunQueue.joins, declared.{locked.Side.Side, call_states.Stage.TheVariants.{Idle, Acquires, Enters, Tries, Signals}}}
+use Rattle.layer_traits.specs.{declared.call_states.Stage.TheVariants.{SignalsOwn, Releases}, Blocks.BufferBlocks.may_join}
 use Rattle.event_log.specs.declared.{ids.{CpuId.CpuId, Tid.Tid, LockId.TheVariants.Buffer as AtBuffer, TheConstants.THREADS}, entries.Entry.Entry}
-use Rattle.{event_log.specs.{History.same_cpu, Runs.Group, Sections.Section}, thread_blocks.specs.Queues.first, layer_traits.specs.declared.locked.Side.Side}
-use Rattle.layer_traits.specs.declared.call_states.Stage.TheVariants.{Idle, Acquires, Enters, Tries, Signals, SignalsOwn, Releases}
-use Rattle.{layer_traits.specs.Blocks.BufferBlocks.may_join, cpu.specs.Table.Blocks.{Buffer, OfBuffer, Name, RelQ, Pend, side_of_group, Reported, Nothing}}
-use Rattle.cpu.specs.Table.{Blocks.{Position, Answer, Enter}, Edits.{edited_buffer, acquired, lined_up, reports, wakes, answer, answer_of_acquire}}
-use Rattle.cpu.specs.Table.{Edits.{answer_of_buffer, line_on, drawn_position}, Setups.{SystemConfig, Call, CpuLocal, thread_at, home_cpu, home_threads}}
-use Rattle.cpu.specs.Table.{Setups.{have_ended, stands_at}, Choice.{section_due, first_signal, second_signal, asked, Goes, choice, with_call, entry_made}}
-use Rattle.cpu.specs.Table.Choice.{effected, with_told, woken, guest_after, returned, returned_at, settled, after_section, first_section, recorded_entry}
-use Rattle.cpu.specs.{Table.{Choice.recorded_position, Steps.{SystemState, steps_by}}, Wakeups.{Alone.{IsInCall, steps_to_move}, Order.block_of}}
-use Rattle.cpu.proofs.Wakeups.{Agreement.at_same, CpuStep.pending_there, CpuAlone.{steps_more, section_of, Stands, after_three, two_steps, here_two}}
-use Rattle.cpu.proofs.Wakeups.CpuAlone.{three_steps, stands_after, InCall, with_new, goes_on, asks_for, after_is, settled_is, block_next}
+use Rattle.{event_log.specs.{History.same_cpu, Runs.Group, Sections.Section}, thread_blocks.specs.Queues.first, cpu.specs.Table.Blocks.{Buffer, OfBuffer, Name}}
+use Rattle.cpu.specs.Table.{Blocks.{RelQ, Pend, side_of_group, Reported, Nothing, Position, Answer, Enter}, Edits.{edited_buffer, acquired, lined_up, reports}}
+use Rattle.cpu.specs.Table.{Edits.{wakes, answer, answer_of_acquire, answer_of_buffer, line_on, drawn_position}, Setups.{SystemConfig, Call, CpuLocal}}
+use Rattle.cpu.specs.Table.{Setups.{thread_at, home_cpu, home_threads, have_ended, stands_at}, Choice.{section_due, first_signal, second_signal, asked, Goes}}
+use Rattle.cpu.specs.Table.Choice.{choice, with_call, entry_made, effected, with_told, woken, guest_after, returned, returned_at, settled, after_section}
+use Rattle.cpu.specs.{Table.{Choice.{first_section, recorded_entry, recorded_position}, Steps.{SystemState, steps_by}}, Wakeups.Alone.{IsInCall, steps_to_move}}
+use Rattle.cpu.{specs.Wakeups.Order.block_of, proofs.Wakeups.{Agreement.at_same, CpuStep.pending_there, CpuAlone.{steps_more, section_of, Stands, after_three}}}
+use Rattle.cpu.proofs.Wakeups.CpuAlone.{two_steps, here_two, three_steps, stands_after, InCall, with_new, goes_on, asks_for, after_is, settled_is, block_next}
 
 module _ (setup : SystemConfig) (c : CpuId) (t : Tid) where
   -- after n steps of CPU c its thread t is in this call, which continues; the call's buffer holds
@@ -153,11 +153,11 @@ module _ (setup : SystemConfig) (c : CpuId) (t : Tid) where
         advance s n k next call more traced traced left (wakes (Some u)) gets told edits same_buffer (λ p inside.
         let h = with_call p t (Some more) in
         let now = new_in p call more traced inside in
-        let ready : CpuLocal = record h { ready = h.ready ++ u ∷ [] } in
+        let ready : CpuLocal = record h { ready = joins (u ∷ []) h.ready } in
         let at : InCall setup c ready t more traced = grind (arith, now) in
         let same = after_is setup c p t call traced (wakes (Some u)) inside
         ∙ ap (λ x. settled setup (woken setup c (Some u) x)) (recorded_so p Nothing)
-        ∙ ap (λ b. settled setup (if b then record h { ready = h.ready ++ u ∷ [] } else record h { hand = Some u })) here
+        ∙ ap (λ b. settled setup (if b then record h { ready = joins (u ∷ []) h.ready } else record h { hand = Some u })) here
         ∙ settled_is setup c ready t more traced at ∙ stays ready in
         subst (λ x. InCall setup c x t more traced) (sym same) at)
 
@@ -171,7 +171,7 @@ module _ (setup : SystemConfig) (c : CpuId) (t : Tid) where
         let held : CpuLocal = record h { hand = Some u } in
         let same = after_is setup c q t call traced (wakes (Some u)) gets.inside
         ∙ ap (λ x. settled setup (woken setup c (Some u) x)) (recorded_so q Nothing)
-        ∙ ap (λ b. settled setup (if b then record h { ready = h.ready ++ u ∷ [] } else record h { hand = Some u })) away in
+        ∙ ap (λ b. settled setup (if b then record h { ready = joins (u ∷ []) h.ready } else record h { hand = Some u })) away in
         let one = after_three setup c gets.now q (wakes (Some u)) in
         let past : List (Section Name) = section_of c (asked setup c q) ∷ gets.past in
         let stands_one : Stands setup c one held past (left + 3) =

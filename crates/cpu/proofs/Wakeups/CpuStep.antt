@@ -1,7 +1,8 @@
 -- One step of a CPU: each section that it ends is one that may occur, and every CPU stays in
 -- agreement with the log.
-use Rattle.std.proofs.Common.{◌≡◌, true, false, List, [], ◌∷◌, ◌++◌, length, Option, Some, None, option_map, nat_lt, refl, sym, ap, ◌∙◌, subst, arith}
+use Rattle.std.proofs.Common.{◌≡◌, true, false, List, [], ◌∷◌, length, Option, Some, None, option_map, nat_lt, refl, sym, ap, ◌∙◌, subst, arith}
 use Rattle.std.proofs.lemmas.Bool.{and_parts, false_from_ne_true}
+use Rattle.layer_traits.{specs.Threads.{RunQueue.joins, Places.{is_home, is_thread, count_in}}, proofs.PlaceLemmas.{is_hand_true, is_home_true}}
 use Rattle.cpu.proofs.Wakeups.{Agreement.{at_other, at_same, Agrees, IsSettled, runs_at_home, runs_within}, Lists.refuted, ThreadAtBuffer.woken_sleeps}
 use Rattle.cpu.proofs.Wakeups.{BuffersAndThreads.{Good, moves_at, CallersAre, callers_are, is_the_caller, sleeps_not_home}, SectionsAgree.IsCalling}
 use Rattle.cpu.proofs.Wakeups.SectionsAgree.{section_caller, agrees_call, agrees_pended, agrees_drained, agrees_yielded, agrees_foreign, drained_hand}
@@ -11,7 +12,6 @@ use Rattle.cpu.specs.Table.{Setups.{Call, CpuLocal, thread_at, home_cpu, stands_
 use Rattle.cpu.specs.{Table.Choice.{at_pending, at_buffer, section_due, asked_by, asked_at, asked_in, asked, after_call}, Wakeups.Order.block_of}
 use Rattle.event_log.specs.{declared.ids.{CpuId.CpuId, Tid.Tid, BufId.BufId, LockId.{LockId, TheVariants.{Pending, Buffer as AtBuffer}}}, History.same_cpu}
 use Rattle.{event_log.specs.Sections.Section, guest.specs.State.after_yield, thread_blocks.proofs.Members.{same_tid_self, same_tid_true}}
-use Rattle.layer_traits.{specs.Threads.Places.{is_home, is_thread, count_in}, proofs.PlaceLemmas.{is_hand_true, is_home_true}}
 
 -- The locks' blocks are of their kinds.
 
@@ -103,7 +103,7 @@ module _ (setup : SystemConfig) (past : List (Section Name)) (good : Good setup 
       let there = pending_there setup c past in
       let guest = after_yield (stands_at setup p t) (thread_at p t).guest in
       let drained_now = agrees_drained setup c p _ _ agrees settled_before there.0 (λ u. good.pending c u there.0 there.1) good.known in
-      let now = agrees_yielded setup c (record p { ready = p.ready ++ there.0 }) _ _ drained_now t runs_now guest in
+      let now = agrees_yielded setup c (record p { ready = joins there.0 p.ready }) _ _ drained_now t runs_now guest in
       let known = runs_within setup c p _ _ agrees t runs_now in
       grind (arith, there.1, now, refuted, same_tid_true, at_same, at_other, known)
 

@@ -34,7 +34,7 @@ some_items (x ∷ items) m is = lt-ltb 0 (length (x ∷ items)) (omega arith)
 pub allowed_goes : (side : Side) (k : Buffer) (e : Kind) (m : Message) → group_of e ≡ on_side side Receives Sends → Allows k e m → front_may_go side k ≡ true
 allowed_goes side k e m given allowed = grind (arith, or_right, lt-ltb, some_items)
 
--- no thread is due on a side of a calm buffer
+-- no thread is due on a side of a quiescent buffer
 pub quiescent_on : (k : Buffer) → IsQuiescent k → (side : Side) → is_due side k ≡ false
 quiescent_on k quiescent side = grind arith
 

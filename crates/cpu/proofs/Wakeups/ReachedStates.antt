@@ -44,9 +44,6 @@ pub record Ok (setup : SystemConfig) (c : CpuId) (p : CpuLocal) (log : List (Act
   pub settled : IsSettled setup c p
   pub under : (lock : LockId) → lock_in (phase c log) ≡ Some lock → lock ≡ (asked setup c p).lock
 
-no_lock : {A : Type 0} {lock : LockId} → None ≡ Some lock → A
-no_lock {A = A} {lock = lock} is = absurd (cc is)
-
 -- One step.
 
 -- each of these actions is the CPU's

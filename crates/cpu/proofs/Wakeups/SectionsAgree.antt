@@ -1,18 +1,18 @@
 -- What a section leaves of the agreement: the caller's CPU moves on, and all others stay in
 -- agreement.
-use Rattle.std.proofs.Common.{◌≡◌, ℕ, ◌+◌, ◌<◌, Bool, true, false, ◌&&◌, List, [], ◌∷◌, ◌++◌, length, Option, Some, None, is_some, nat_lt, if◌then◌else◌, refl}
-use Rattle.std.proofs.{Common.{sym, ap, ◌∙◌, subst, arith}, lemmas.Bool.{and_from, and_left, and_right, false_from_ne_true}}
-use Rattle.event_log.specs.{declared.ids.{CpuId.CpuId, Tid.Tid}, History.same_cpu, Messages.Message, Runs.{Group, Sends, Receives, Closes}}
-use Rattle.{guest.specs.State.State, thread_blocks.{specs.Queues.same_tid, proofs.Members.{same_tid_self, same_tid_true}}}
+use Rattle.std.proofs.Common.{◌≡◌, ℕ, ◌+◌, ◌<◌, Bool, true, false, ◌&&◌, List, [], ◌∷◌, length, Option, Some, None, is_some, nat_lt, if◌then◌else◌, refl, sym}
+use Rattle.std.proofs.{Common.{ap, ◌∙◌, subst, arith}, lemmas.Bool.{and_from, and_left, and_right, false_from_ne_true}}
+use Rattle.layer_traits.specs.Threads.{RunQueue.joins, Places.{Where, is_home, is_hand, is_thread, one_if, count_in}}
 use Rattle.layer_traits.specs.declared.{locked.Side.TheVariants.{Receivers, Senders}, call_states.Stage.{Stage, TheVariants.{Idle, Acquires, Enters, Tries}}}
-use Rattle.layer_traits.specs.{declared.call_states.Stage.TheVariants.{Waits, AcquiresAgain, Signals, SignalsOwn, Releases}, Threads.Places.{Where, is_home}}
-use Rattle.layer_traits.{specs.Threads.Places.{is_hand, is_thread, one_if, count_in}, proofs.CountLemmas.{same_tid_sym, count_append}}
-use Rattle.cpu.specs.Table.{Blocks.{Buffer, Name, Pend, TakeAll, side_of_group, Reported, Done, WasClosed, NotYet, Answer}, Edits.report_of_put}
-use Rattle.cpu.specs.Table.{Edits.{report_of_take, answer_of_buffer, drawn_position}, Setups.{SystemConfig, Call, Thread, CpuLocal, thread_at, with_thread}}
-use Rattle.cpu.specs.Table.{Setups.{home_cpu, stands_at}, Choice.{section_due, first_section, with_call, with_state, goes_to, with_told, recorded_entry}}
-use Rattle.cpu.specs.{Table.Choice.{recorded_try, slept_if, woken, returned_at, returned_in, settled, guest_after, after_call}, Wakeups.Order.Begins}
-use Rattle.cpu.{specs.Wakeups.Order.{HasEntered, WasRefused, Owes}, proofs.Wakeups.{Lists.refuted, PostsAndVisits.{Visit, Outside, In, is_pending, caller_in}}}
-use Rattle.cpu.proofs.Wakeups.PostsAndVisits.{is_caller, post_slept, post_moved, post_drained, post_pending, next_visit, visit_moved, is_local}
+use Rattle.layer_traits.{specs.declared.call_states.Stage.TheVariants.{Waits, AcquiresAgain, Signals, SignalsOwn, Releases}, proofs.CountLemmas.same_tid_sym}
+use Rattle.{layer_traits.proofs.CountLemmas.count_joins, event_log.specs.{declared.ids.{CpuId.CpuId, Tid.Tid}, History.same_cpu, Messages.Message, Runs.Group}}
+use Rattle.{event_log.specs.Runs.{Sends, Receives, Closes}, guest.specs.State.State, thread_blocks.{specs.Queues.same_tid, proofs.Members.same_tid_self}}
+use Rattle.{thread_blocks.proofs.Members.same_tid_true, cpu.specs.Table.Blocks.{Buffer, Name, Pend, TakeAll, side_of_group, Reported, Done, WasClosed, NotYet}}
+use Rattle.cpu.specs.Table.{Blocks.Answer, Edits.{report_of_put, report_of_take, answer_of_buffer, drawn_position}, Setups.{SystemConfig, Call, Thread}}
+use Rattle.cpu.specs.Table.{Setups.{CpuLocal, thread_at, with_thread, home_cpu, stands_at}, Choice.{section_due, first_section, with_call, with_state, goes_to}}
+use Rattle.cpu.specs.Table.Choice.{with_told, recorded_entry, recorded_try, slept_if, woken, returned_at, returned_in, settled, guest_after, after_call}
+use Rattle.cpu.{specs.Wakeups.Order.{Begins, HasEntered, WasRefused, Owes}, proofs.Wakeups.{Lists.refuted, PostsAndVisits.{Visit, Outside, In, is_pending}}}
+use Rattle.cpu.proofs.Wakeups.PostsAndVisits.{caller_in, is_caller, post_slept, post_moved, post_drained, post_pending, next_visit, visit_moved, is_local}
 use Rattle.cpu.proofs.Wakeups.Agreement.{visit_of_stage, visit_of_call, is_last, is_done, Agrees, IsSettled, at_same, at_other, Same, same_with, agrees_same}
 use Rattle.cpu.proofs.Wakeups.Agreement.{runs_at_home, local_within, agrees_slept, agrees_woken}
 
@@ -232,14 +232,14 @@ module _ (setup : SystemConfig) (c : CpuId) (p : CpuLocal) (T : Tid → Visit) (
   -- those that were pending are ready
   pub agrees_drained : (list : List Tid) → ((u : Tid) → count_in u list ≡ one_if (same_cpu (home_cpu setup u) c && is_pending (P u)))
       → ((u : Tid) → is_home (P u) ≡ false → nat_lt u.0 (length setup.homes) ≡ true)
-      → Agrees setup c (record p { ready = p.ready ++ list }) T (λ u. post_pending setup c u TakeAll (P u))
-  agrees_drained list counts known = grind (arith, agrees, count_append, and_right, and_from, false_from_ne_true, refuted, drained_hand, counts, known)
+      → Agrees setup c (record p { ready = joins list p.ready }) T (λ u. post_pending setup c u TakeAll (P u))
+  agrees_drained list counts known = grind (arith, agrees, count_joins, and_right, and_from, false_from_ne_true, refuted, drained_hand, counts, known)
 
 -- the current thread yields: it is queued after the ready threads, and no thread runs
 pub agrees_yielded : (setup : SystemConfig) (c : CpuId) (p : CpuLocal) (T : Tid → Visit) (P : Tid → Where) → Agrees setup c p T P → (t : Tid)
     → p.current ≡ Some t
-    → (guest : State) → Agrees setup c (record (with_state p t guest) { current = None; ready = p.ready ++ t ∷ [] }) T P
-agrees_yielded setup c p T P agrees t runs_now guest = grind (arith, moved, same_tid_sym, count_append)
+    → (guest : State) → Agrees setup c (record (with_state p t guest) { current = None; ready = joins (t ∷ []) p.ready }) T P
+agrees_yielded setup c p T P agrees t runs_now guest = grind (arith, moved, same_tid_sym, count_joins)
   where
     known : t.0 < length p.threads
     known = local_within setup c p T P agrees t (runs_at_home setup c p T P agrees t runs_now).0

@@ -11,6 +11,7 @@ use Rattle.layer_traits.specs.declared.call_states.Stage.{Stage, TheVariants.{Id
 use Rattle.layer_traits.specs.declared.call_states.Stage.TheVariants.{Enters, Tries, Waits}
 use Rattle.layer_traits.specs.declared.call_states.Stage.TheVariants.{AcquiresAgain, Signals}
 use Rattle.layer_traits.specs.declared.call_states.Stage.TheVariants.{SignalsOwn, Releases}
+use Rattle.layer_traits.specs.Threads.RunQueue.{joins}
 use Rattle.guest.specs.declared.instructions.Instruction.{Instruction, TheVariants.{Set, Add, Sub}}
 use Rattle.guest.specs.declared.instructions.Instruction.TheVariants.{Jnz, Send, Recv, Close}
 use Rattle.guest.specs.declared.instructions.Instruction.TheVariants.{Yield as YieldLine, Exit}
@@ -240,7 +241,7 @@ slept_if true p = record p { current = None }
 abbrev pub woken : SystemConfig → CpuId → Option Tid → CpuLocal → CpuLocal
 woken setup c None p = p
 woken setup c (Some s) p =
-    if same_cpu (home_cpu setup s) c then record p { ready = p.ready ++ s ∷ [] }
+    if same_cpu (home_cpu setup s) c then record p { ready = joins (s ∷ []) p.ready }
     else record p { hand = Some s }
 
 -- the thread's state after its call has returned, by what it asked for
@@ -295,19 +296,16 @@ abbrev pub after_yielding : SystemConfig → CpuLocal → Tid → Answer → Cpu
 after_yielding setup p t a =
     record (with_state p t (after_yield (stands_at setup p t) (thread_at p t).guest)) {
       current = None;
-      ready = (p.ready ++ drained a.told) ++ t ∷ [];
+      ready = joins (t ∷ []) (joins (drained a.told) p.ready);
     }
-
--- after a drain: the pending threads are ready
-abbrev pub after_drain : CpuLocal → Answer → CpuLocal
-after_drain p a = record p { ready = p.ready ++ drained a.told }
 
 abbrev pub after_by : SystemConfig → CpuId → CpuLocal → Tid → Option Call → Answer → CpuLocal
 after_by setup c p t None a = after_yielding setup p t a
 after_by setup c p t (Some call) a = after_call setup c p t call a
 
+-- after a drain the pending threads are ready
 abbrev pub after_at : SystemConfig → CpuId → CpuLocal → Option Tid → Answer → CpuLocal
-after_at setup c p None a = after_drain p a
+after_at setup c p None a = record p { ready = joins (drained a.told) p.ready }
 after_at setup c p (Some t) a = after_by setup c p t (thread_at p t).call a
 
 -- after the section that appended the thread in the hand to the pending threads, the hand is empty

@@ -1,18 +1,18 @@
 -- Every thread has exactly one place: it runs, is ready, is in a hand, is pending, sleeps at a lock
 -- or waits at a buffer.
 use Rattle.std.specs.Prelude.{◌≡◌, ℕ, zero, suc, Bool, not, ◌&&◌, nat_lt, List, [], ◌++◌, length}
-use Rattle.std.specs.Prelude.{Option, Some, None, slice_get}
+use Rattle.std.specs.Prelude.{Option, Some, None, option_to_list, slice_get}
 use Rattle.event_log.specs.declared.ids.{Tid.Tid, LockId.TheVariants.{Pending, Buffer as AtBuffer}}
-use Rattle.layer_traits.specs.Threads.{Passes.as_list, Places.{one_if, count_in}}
-use Rattle.cpu.specs.Table.{Blocks.{Block, OfBuffer, OfPending}, Setups.{SystemConfig, Thread}}
-use Rattle.cpu.specs.Table.{Setups.{CpuLocal, new_thread, thread_at, home_cpu}, Steps.SystemState}
+use Rattle.{layer_traits.specs.Threads.Places.{one_if, count_in}, cpu.specs.Table.Blocks.Block}
+use Rattle.cpu.specs.Table.{Blocks.{OfBuffer, OfPending}, Setups.{SystemConfig, Thread, CpuLocal}}
+use Rattle.cpu.specs.Table.{Setups.{new_thread, thread_at, home_cpu}, Steps.SystemState}
 use Rattle.cpu.specs.Table.{Steps.{IsReached, cpu_numbered, block_at}, Worked.buffer_numbered}
 use Rattle.cpu.specs.Wakeups.Quiet.{HomesExist}
 
 -- the threads that a CPU has: the running one, those that are ready, the one in its hand
 abbrev pub own_queues : Option CpuLocal → List Tid
 own_queues None = []
-own_queues (Some p) = (as_list p.current ++ p.ready) ++ as_list p.hand
+own_queues (Some p) = (option_to_list p.current ++ p.ready) ++ option_to_list p.hand
 
 -- the threads that a block has; its lines are no places, because a thread in a line is in a place
 -- elsewhere

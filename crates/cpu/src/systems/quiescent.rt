@@ -1,5 +1,5 @@
-//! Whether each CPU is calm (idle or ended), as all CPUs of a quiet system are, and how long its
-//! traces are. No function allocates or blocks.
+//! Whether each CPU is quiescent (idle or ended), as all CPUs of a quiet system are, and how long
+//! its traces are. No function allocates or blocks.
 
 ghost use Rattle.std.specs.Prelude.{◌≡◌, ◌<◌, length};
 ghost use Rattle.{layer_traits.specs.Views.OwnParts.threads_in, cpu.specs.Quiescent.rests};
@@ -22,9 +22,10 @@ where
 {
     ghost use Rattle.cpu.specs.Quiescent.{TracesFit, quiescent_in};
 
-    /// Returns whether `cpu`, which must exist, is calm. A halted CPU is calm if each of its
-    /// threads has ended. Any other is calm if it has no section under way, no running or ready
-    /// thread, and an empty hand. A system is quiet if each CPU is calm and no thread is pending.
+    /// Returns whether `cpu`, which must exist, is quiescent. A halted CPU is quiescent if each
+    /// of its threads has ended. Any other is quiescent if it has no section under way, no running
+    /// or ready thread, and an empty hand. A system is quiet if each CPU is quiescent and no thread
+    /// is pending.
     ///
     /// Requires: the system has a CPU of this number.
     pub(super) fn is_quiescent(&self, cpu: CpuId) -> bool

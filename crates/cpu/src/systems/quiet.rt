@@ -33,7 +33,7 @@ where
         self.rests()
     }
 
-    /// Returns whether each CPU is calm and all pending queues are empty.
+    /// Returns whether each CPU is quiescent and all pending queues are empty.
     fn rests(&self) -> bool
         ensures { result ≡ true ↔ IsQuiet self.now }
     {
@@ -43,7 +43,7 @@ where
         self.nobody_pends()
     }
 
-    /// Returns whether each CPU is calm.
+    /// Returns whether each CPU is quiescent.
     fn are_quiescent(&self) -> bool
         ensures { result ≡ true
             ↔ ((c : CpuId) → c.0 < length self.now.cpus → quiescent_in c self.now ≡ true) }

@@ -59,7 +59,7 @@ assembled-requires g c =
                 (slice_index_or tables k []) (length c.args.caps.now) (I.opening m) are opened),
           );
     })
-    e.acts e.holders e.none e.opened.homes_are e.opened.none_seen c.ranges.room.coupled e.opened.room_is
+    e.acts e.holders e.none e.opened.homes_are e.opened.none_seen (omega arith) e.opened.room_is
 
 pub returns-clause-guests : goal.returns-clause-guests
 returns-clause-guests g c =
