@@ -13,7 +13,7 @@ use Rattle.layer_traits.specs.{Blocks.{QueueBlocks.above_of, QueueRules.{AreProp
 use Rattle.layer_traits.specs.Layers.{QLockLaw.lock_kernel, QLocking.lock_edited, Queues.{QueueAllowed, buffer_sections, event_of}, Sleeping.sleep_edited}
 use Rattle.layer_traits.specs.{Protocols.{OneLock.opened, WordsProtocol.{MayCome, edit_of, sections}}, Laws.Openings.opens_so}
 use Rattle.layer_traits.proofs.{KernelRenaming.{homes_viewed, proper_renamed, seen_renamed, starts_viewed, viewed_there}, NestedLemmas.lawful_events}
-use Rattle.layer_traits.proofs.{NestedLemmas.lawful_proper, PlanRenaming.block_viewed, Seen.{sections_allowed, words_legal}}
+use Rattle.layer_traits.proofs.{NestedLemmas.lawful_proper, PlanRenaming.{block_viewed, stands_of_parts}, Seen.{sections_allowed, words_legal}}
 use Rattle.sleep_wakeup.specs.{Laws.NestedLaws.nested_lawful, Nested.{nested_edited, nested_moves, nested_rules, state_of}}
 use Rattle.queuing_lock.specs.{declared.edits.QLockSection.QLockSection, Laws.NestedLaws.locks_lawful, Nested.{busy_rules, nested_lock_of}}
 use Rattle.fifo_buffer.{specs.Laws.{OwnedLaws.items_acted, Tallies.effects_lawful}, proofs.Opening.{boots_well, caps_are}}
@@ -38,7 +38,13 @@ module _ {D E A B : Type 0} (low : D → A → A) (high : E → B → B) (name :
       ≡ option_map (viewed_block sees) (block_after (queue_edited low) opening at past)
   block_seen opening at past =
       block_viewed (record { edited = queue_edited low; answer = λ e b. tt }) (record { edited = queue_edited high; answer = λ e b. tt })
-      (record { name = renamed_edit name; view = viewed_block sees; told = λ (u : Unit {0}). u; edits = edits_seen; answers = λ e b. refl }) opening at past
+      (record {
+        name = renamed_edit name;
+        view = viewed_block sees;
+        abstract_answer = λ (u : Unit {0}). u;
+        edits = edits_seen;
+        answers = λ e b. refl;
+      }) opening at past
 
 -- The blocks that are given back.
 

@@ -122,7 +122,7 @@ tower_seat_send a K k = view_send _ _ _ _ _ (declared_send (inside_type a K k) (
   seat_part a edit K _ answer handed response (record {
     protocol = _;
     abstract_call = abstract_queue_edit (abstract_nested_edit (abstract_lock_section (abstract_cv_edit abstract_buffer_edit)));
-    told = abstract_queue_answer (abstract_nested_answer (abstract_lock_answer (abstract_cv_answer abstract_buffer_answer)));
+    abstract_answer = abstract_queue_answer (abstract_nested_answer (abstract_lock_answer (abstract_cv_answer abstract_buffer_answer)));
   }) _
       tower_block_send tower_block_sync,
   (search (sendable, crosses, bells_sync) depth 9, tt),

@@ -48,7 +48,7 @@ module _ (IsStepwise : Type 0) (plan : BootPlan) (steps : List CpuId) (s : Syste
   contents_are : s.contents ≡ contents_at setup (whole_of s)
   contents_are =
       listed_is s.contents (λ b. items_held (block_at setup (AtBuffer (buffer_at b)) s.log)) (length plan.caps) [] contents_wide
-      (λ b within. let has = told.buffers setup planned b (omega (arith, within, caps_long)) in has.told.items ∙ sym (ap items_held has.there))
+      (λ b within. let has = told.buffers setup planned b (omega (arith, within, caps_long)) in has.observed.items ∙ sym (ap items_held has.there))
 
   -- the text is the table's
   pub text_of_run : (text : List ℕ) → IsTextOf plan.caps (traces_of s) s.contents text → IsTextOfRun plan steps text

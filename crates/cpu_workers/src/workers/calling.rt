@@ -205,7 +205,7 @@ where
             Err(goes_on) => begun = goes_on,
         }
         spins = handoff_backoff.after(part, m, spins);
-        idler.after_poll(rt, part, m);
+        idler.after_poll(rt, part, m, handoff_backoff);
     }
     unreachable!()
 }

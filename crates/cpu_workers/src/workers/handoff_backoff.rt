@@ -63,6 +63,28 @@ enum LastEvent {
     Sent,
 }
 
+/// How many waits of an idle CPU have passed since checks of its bell last succeeded, at most
+/// 4,096.
+#[derive(Drop)]
+pub(crate) struct Waits {
+    failed: u16,
+}
+
+impl Waits {
+    /// Returns the state of a CPU that has not been idle.
+    pub(crate) fn new() -> Waits {
+        Waits { failed: 0 }
+    }
+
+    /// Counts a wait, and returns whether the CPU checks its bell in it: in the first, second,
+    /// fourth, eighth wait and so on. If such checks fail, the other CPU is not running, because
+    /// other threads need its processor. More checks would then only delay it.
+    pub(crate) fn is_checked(&mut self) -> bool {
+        self.failed = self.failed % 4_096 + 1;
+        self.failed.is_power_of_two()
+    }
+}
+
 /// What a CPU keeps of its calls and its waits.
 #[derive(Drop)]
 pub struct HandoffBackoff {
@@ -80,6 +102,8 @@ pub struct HandoffBackoff {
     // next.
     rests_until: usize,
     next_rest: usize,
+    // Its waits for its bell.
+    pub(crate) idle_waits: Waits,
 }
 
 impl HandoffBackoff {
@@ -95,6 +119,7 @@ impl HandoffBackoff {
             counted: 0,
             rests_until: 0,
             next_rest: FIRST_REST,
+            idle_waits: Waits::new(),
         }
     }
 

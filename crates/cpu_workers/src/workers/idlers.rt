@@ -3,7 +3,7 @@
 
 ghost use Rattle.std.specs.Prelude.{◌≡◌};
 
-use crate::workers::handoff_backoff::is_idle;
+use crate::workers::handoff_backoff::{HandoffBackoff, Waits, is_idle};
 use crate::workers::hints::Hints;
 use crate::workers::worker::Worker;
 use event_log::CpuId;
@@ -11,9 +11,10 @@ use layer_traits::{CallLayer, IpcLaw};
 use std::sync::Wait;
 
 // How many times an idle CPU checks its bell before it parks, with some spin loops between two
-// checks. Parking and remote wake-up take about as long. A check is outside of every section.
-// Therefore no other CPU waits for an idle CPU that was preempted.
-const POLLS: u16 = 1_000;
+// checks: for about 50 µs. Parking and remote wake-up take less. But a thread that is in line for a
+// buffer's mutex waits for 10 to 20 µs behind three others, even if each has a processor. A check
+// is outside of every section. Therefore no other CPU waits for an idle CPU that was preempted.
+const CHECKS: u16 = 1_000;
 
 /// An idle CPU's polls of its pending queue, and its waits for its bell.
 #[derive(Drop)]
@@ -21,79 +22,58 @@ pub(crate) struct Idler {
     cpu: CpuId,
     // How often the CPU's bell had been rung before the newest poll of its queue began.
     rung: u64,
-    // How many polls have failed since the bell was last rung during the checks, at most 4,096.
-    polls: u16,
 }
 
 impl Idler {
-    /// Returns the state of a CPU that has not been idle.
+    /// Returns the state of a CPU that has not polled its queue.
     pub(crate) fn new(cpu: CpuId) -> Idler {
-        Idler {
-            cpu,
-            rung: 0,
-            polls: 0,
-        }
+        Idler { cpu, rung: 0 }
     }
 
-    /// Reads the CPU's bell if the CPU is idle and no section is under way. Its next turn polls the
-    /// queue then. After some failed polls it first checks for a while whether the bell is rung. A
-    /// worker calls it before it takes turns, a caller before each poll of a call.
+    /// Reads the CPU's bell if the CPU waits. Its next turn polls the queue then. A worker calls it
+    /// before it takes turns, a caller before each poll of a call.
     #[inline(always)]
     pub(crate) fn before<I: CallLayer<IpcLaw>>(&mut self, part: &I, machine: &I::Machine)
     where
         I::Machine: Hints,
     {
-        if part.current().is_none() && !part.is_busy() && is_idle(part) {
-            if self.polls.is_power_of_two() && self.is_rung_soon(machine) {
-                self.polls = 0;
-            }
+        if is_waiting(part) {
             self.rung = machine.rings(self.cpu);
         }
     }
 
-    // Checks the bell for a while. Returns whether it was rung meanwhile, and not before.
-    fn is_rung_soon<H: Hints>(&self, machine: &H) -> bool {
-        if machine.rings(self.cpu) != self.rung {
-            return false;
-        }
-        for _ in 0..POLLS {
-            rest();
-            if machine.rings(self.cpu) != self.rung {
-                return true;
-            }
-        }
-        false
-    }
-
-    /// After each poll of a call: parks the CPU if it has been idle for long.
+    /// After each poll of a call: parks the CPU if it waits and its bell is not rung soon.
     #[inline(always)]
     pub(crate) fn after_poll<I: CallLayer<IpcLaw>, R: Wait>(
-        &mut self,
+        &self,
         rt: &R,
         part: &I,
         machine: &I::Machine,
+        handoff_backoff: &mut HandoffBackoff,
     )
     where
         I::Machine: Hints,
     {
-        if self.may_park(part) {
+        if is_waiting(part) && !self.is_rung_soon(machine, handoff_backoff) {
             machine.park_native(rt, self.cpu, self.rung);
         }
     }
 
-    /// After each turn of a worker: parks its CPU if it has been idle for long, is not halted, and
-    /// need not ask its gate. If only that keeps the CPU from parking, it yields the processor.
+    /// After each turn of a worker: parks its CPU if it waits, its bell is not rung soon, it is not
+    /// halted, and it need not ask its gate. If only that keeps the CPU from parking, it yields the
+    /// processor.
     #[inline(always)]
     pub(crate) fn after_turn<I: CallLayer<IpcLaw> + Drop, R: Wait>(
-        &mut self,
+        &self,
         rt: &R,
         worker: &Worker<I>,
         open: usize,
+        handoff_backoff: &mut HandoffBackoff,
     )
     where
         I::Machine: Drop + Hints,
     {
-        if self.may_park(worker.part()) {
+        if is_waiting(worker.part()) && !self.is_rung_soon(worker.machine(), handoff_backoff) {
             if 1 < open && worker.halted().is_none() {
                 worker.machine().park_worker(rt, self.cpu, self.rung);
             } else {
@@ -102,18 +82,37 @@ impl Idler {
         }
     }
 
-    // Counts a poll of an idle CPU, and returns whether the CPU may park. It may not before the
-    // checks that `before` makes: these follow the first, second, fourth, eighth failed poll and so
-    // on. If such checks fail, the other CPU is not running, because other threads need its
-    // processor. More checks would then only delay it.
-    #[inline(always)]
-    fn may_park<I: CallLayer<IpcLaw>>(&mut self, part: &I) -> bool {
-        if part.current().is_some() || part.is_busy() || !is_idle(part) {
-            return false;
+    // Returns whether the bell was rung since the newest poll of the queue began. In some waits it
+    // checks for a while. It is not inlined, because few turns reach it.
+    #[cold]
+    #[inline(never)]
+    fn is_rung_soon<H: Hints>(&self, machine: &H, handoff_backoff: &mut HandoffBackoff) -> bool {
+        if machine.rings(self.cpu) != self.rung {
+            return true;
         }
-        self.polls = self.polls % 4_096 + 1;
-        !self.polls.is_power_of_two()
+        if handoff_backoff.idle_waits.is_checked() && self.is_rung_in_checks(machine) {
+            handoff_backoff.idle_waits = Waits::new();
+            return true;
+        }
+        false
     }
+
+    // Checks the bell for a while. Returns whether it was rung meanwhile.
+    fn is_rung_in_checks<H: Hints>(&self, machine: &H) -> bool {
+        for _ in 0..CHECKS {
+            rest();
+            if machine.rings(self.cpu) != self.rung {
+                return true;
+            }
+        }
+        false
+    }
+}
+
+// Returns whether the CPU is idle and no section of it is under way.
+#[inline(always)]
+fn is_waiting<I: CallLayer<IpcLaw>>(part: &I) -> bool {
+    part.current().is_none() && !part.is_busy() && is_idle(part)
 }
 
 // Spins between two checks of a bell.

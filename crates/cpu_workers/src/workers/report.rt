@@ -115,6 +115,6 @@ fn items_of(block: &TowerBlock) -> ArrayVec<Msg, CAPACITY>
 {
     match block {
         QueueBlock::Queue(_, _) => ArrayVec::new(),
-        QueueBlock::Above(room) => room.content().above.above.items(),
+        QueueBlock::Above(room) => room.content().above.above.items().items(),
     }
 }

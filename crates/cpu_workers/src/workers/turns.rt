@@ -179,7 +179,7 @@ where
         let gone = worker.turns(most);
         taken = taken.saturating_add(gone as u64);
         spins = handoff_backoff.after_turn(worker, spins);
-        idler.after_turn(rt, worker, open);
+        idler.after_turn(rt, worker, open, &mut handoff_backoff);
     }
     unreachable!()
 }

@@ -13,4 +13,4 @@ returns c =
     let one = program_grown _ _ _ _ _ c.in_ok-subcommand.ensures bare count.0 count.1 in
     let two = program_grown _ _ _ _ _ c.in_ok-subcommand-2.ensures one run.0 run.1 in
     let three = program_grown _ _ _ _ _ c.in_ok-subcommand-3.ensures two threads.0 threads.1 in
-    IfOk-weaker c.subcommand-4.result _ _ (λ r adds. program_grown _ _ _ _ _ adds three c.new-2.ensures.app c.new-2.ensures.local_is) c.subcommand-4.ensures
+    IfOk-weaker c.subcommand-4.result _ _ (λ r adds. program_grown _ _ _ _ _ adds three c.new-2.ensures.app c.new-2.ensures.local) c.subcommand-4.ensures

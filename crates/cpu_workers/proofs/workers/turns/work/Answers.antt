@@ -15,7 +15,7 @@ returns-in-Some-before g c =
 pub loop-preserved : goal.loop-preserved
 loop-preserved g c =
     let before = c.before-in-loop.ensures in
-    let small : c.args.turns ≤ most = let coupled = c.ranges.turns.coupled in omega (arith, coupled) in
+    let small : c.args.turns ≤ most = omega arith in
     let all = c.at_once-open.ensures in
     let less = c.at_most-most.ensures.few in
     let few = c.turns-gone.ensures.few in
