@@ -38,10 +38,11 @@ from machine import MACHINES, PC  # noqa: E402
 TARGETS = {
     "x86_64": "--target=x86_64-unknown-none-elf -march=x86-64 -mno-red-zone".split(),
     "riscv64": "--target=riscv64-unknown-none-elf -march=rv64gc -mabi=lp64d -mcmodel=medany".split(),
-    "aarch64": "--target=aarch64-unknown-none-elf -march=armv8-a -mno-outline-atomics -mstrict-align".split(),  # before there are pages
+    "aarch64": "--target=aarch64-unknown-none-elf -march=armv8-a -mtp=el1 -mno-outline-atomics -mstrict-align".split(),  # before there are pages
 }
 CHECKED = """-O2 -ffreestanding -fno-builtin -fno-pic -fno-stack-protector -fno-asynchronous-unwind-tables -nostdinc -Wall -Wextra
     -Wno-unused-parameter -Werror --no-default-config -c""".split()
+OF_HOST = {"x86_64": ["-mgeneral-regs-only"], "riscv64": [], "aarch64": ["-mgeneral-regs-only"]}  # its own C code runs before floats are on
 PORTED = "-O2 -ffunction-sections -fdata-sections --no-default-config -fno-pic -Wno-override-module -x ir -c".split()
 LINK = "--gc-sections --fatal-warnings -z max-page-size=4096".split()
 PLACES = {"x86_64": 0x100000, "riscv64": 0x80200000, "aarch64": 0x40200000}  # of the image: behind the firmware, and where a loader takes it to
@@ -56,7 +57,7 @@ PAUSES = {"riscv64": 'call void asm sideeffect ".word 0x0100000F", ""()', "aarch
 MENU = """set timeout=0
 if [ "$grub_platform" = efi ]; then insmod all_video; else set gfxpayload=text; fi
 menuentry "the verified thread tower" {{
-  multiboot2 /boot/tower.elf {words}
+  multiboot /boot/tower.elf tower {words}
   {module}
 }}
 """
@@ -108,11 +109,11 @@ def linked(program, out, host=HOST, machine=PC, flags=()):
         room, own = Path(folder), host / machine.name
         sources = [own / "start.S", *sorted(host.glob("*.c")), *sorted(own.glob("*.c")), with_plans(room)]
         sources += [] if machine is PC else [host / "by_tree/tree.c"]
-        objects = [compiled(source, room, machine, host, flags) for source in sources]
+        objects = [compiled(source, room, machine, host, [*flags, *(OF_HOST[machine.name] if source.suffix == ".c" else [])]) for source in sources]
         objects.append(compiled(program, room, machine, host, flags) if program.suffix == ".c" else program)
         out.parent.mkdir(exist_ok=True)
         raw = ["--oformat", "binary"] if machine.name == "aarch64" else []
-        run(tool("ld.lld"), *LINK, *raw, f"--defsym=image_at={PLACES[machine.name]}", "-T", host / "link.ld", "-o", out, *objects)
+        run(tool("ld.lld"), *LINK, *raw, f"--defsym=image_start={PLACES[machine.name]}", "-T", host / "link.ld", "-o", out, *objects)
 
 
 def object_built(room):
@@ -235,7 +236,7 @@ def disk(image, out, plan=None, *words):
         shutil.copyfile(image, boot / "tower.elf")
         if plan:
             shutil.copyfile(plan, boot / "plan.toml")
-        module = "module2 /boot/plan.toml" if plan else ""
+        module = "module /boot/plan.toml" if plan else ""
         (boot / "grub/grub.cfg").write_text(MENU.format(words=" ".join(map(in_menu, words or ["shell"])), module=module))
         run("grub-mkrescue", "-o", out, room, stderr=subprocess.DEVNULL)
 

@@ -2,6 +2,7 @@
 """Proves the console driver of metal/console, builds it over metal/host, and types at it in QEMU:
 
     metal/console.py             proves, builds and links; boots on 1 to 4 processors, types random bytes and compares what is printed
+    metal/console.py --prove     proves, builds and links, and boots nothing; the gate's, while `rt ci` proves the last crate
     metal/console.py --all       the same with more runs and longer ones
     metal/console.py --type      boots what was built, with this terminal as its serial line: control-D ends the input
     metal/console.py --wrong     the prover has to refuse each body of metal/console/wrong; each of wrong/proved is proved, and a run has to see it
@@ -64,8 +65,10 @@ def lay(copy):
     crates = build.ROOT / "crates"
     copy.mkdir(parents=True, exist_ok=True)
     shutil.copytree(crates, copy / "crates", ignore=shutil.ignore_patterns(*NOT_COPIED))
-    for library in crates.glob("*/out/rlib"):  # only read, so that a second name is enough
-        shutil.copytree(library, copy / library.relative_to(build.ROOT), copy_function=linked_or_copied)
+    for library in crates.glob("*/out/rlib"):  # only read, so that a second name is enough; they are gigabytes
+        place = copy / library.relative_to(build.ROOT)
+        place.parent.mkdir()
+        place.symlink_to(library)
     shutil.copy(build.ROOT / "HANDLES", copy)
     (copy / "crates.txt").write_text((build.ROOT / "crates.txt").read_text() + (CRATE / "stands-on.txt").read_text())
     folder = copy / "crates" / NAME
@@ -73,14 +76,6 @@ def lay(copy):
         (folder / there).parent.mkdir(parents=True, exist_ok=True)
         shutil.copyfile(here, folder / there)
     return folder
-
-
-def linked_or_copied(old, new):
-    """Gives a file a second name, or copies it to another file system."""
-    try:
-        os.link(old, new)
-    except OSError:
-        shutil.copy(old, new)
 
 
 def differences_in_layout(folder, writes=False):
@@ -209,10 +204,11 @@ def refused_by_prover(room):
     shutil.copytree(kept_in_cache(), folder / "out/incremental")
     # the crate was proved before; libraries of `rt ci` have no stamp
     words = [room / "tests/wrong-bodies.py", "--after-ci", "--jobs", "1", NAME]
-    ran = subprocess.run(words, cwd=room, stdout=subprocess.PIPE, text=True, check=False)
-    said, _, last = ran.stdout.strip().rpartition("\n")
-    print(said, flush=True)
-    found = re.fullmatch(r"(\d+) passed, (\d+) failed", last)
+    last = ""
+    with subprocess.Popen(words, cwd=room, stdout=subprocess.PIPE, text=True) as ran:
+        for last in ran.stdout:
+            print(last, end="", flush=True)
+    found = re.fullmatch(r"(\d+) passed, (\d+) failed", last.strip())
     return (int(found[1]), int(found[2])) if found else (0, 1)
 
 
@@ -263,7 +259,7 @@ def only(asked):
 
 def main():
     read = argparse.ArgumentParser(description=__doc__, formatter_class=argparse.RawDescriptionHelpFormatter)
-    for flag in ("--all", "--type", "--wrong", "--format"):
+    for flag in ("--prove", "--all", "--type", "--wrong", "--format"):
         read.add_argument(flag, action="store_true")
     read.add_argument("--lay", type=Path, metavar="FOLDER")
     read.add_argument("--machine", choices=machine.MACHINES, default=machine.PC.name)
@@ -276,6 +272,8 @@ def main():
         print("console: no proved libraries here: nothing was proved")
         return LEFT_OUT_ALL
     passed, failed = wrong(kind) if asked.wrong else (1, 0) if image_proved(kind) else (0, 1)
+    if asked.prove:
+        return failed
     if not asked.wrong and not failed and kind.is_there():
         ran = boots(kind, asked.all)
         passed, failed = passed + ran[0], failed + ran[1]

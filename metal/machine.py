@@ -74,7 +74,7 @@ def ran(asked, room, machine=PC):
     if qemu.returncode in TIMED_OUT and (machine is PC or b"host: " not in err):
         return HUNG, out, err + b"metal: it did not end in %d seconds\n" % SECONDS
     status = machine.status(qemu.returncode)
-    if status is None or (machine is not PC and status == 1 and qemu.stderr):
+    if status is None or (machine is not PC and status == 1 and qemu.stderr and not err):  # of the program's own 1 the run said why
         return NO_RUN, out, err + b"metal: QEMU ended by itself: " + (qemu.stderr.strip() or b"the machine was reset") + b"\n"
     return status, out, err
 

@@ -341,7 +341,7 @@ def slices(held):
             came = held.tried(word, processors, image=held.in_slices("trial"))
             return unlike(came, (7, b"", b""))
         yield f"{word} on {processors}", one
-    for number in range(16):
+    for number in range(16 if held.program else 0):  # an image that was given is not linked again
         def one(number=number):
             sliced = Held(held.in_slices("tower"), held.trial, held.machine)
             kinds = (rows, threads, count, plans)
@@ -363,17 +363,17 @@ def shell(held):
     return typing_at.cases(held)
 
 
-def by_grub(held, room, words, plan, firmware):
+def by_grub(image, room, words, plan, firmware, processors=4):
     """Boots a disk by GRUB and returns a status and what came on both serial lines."""
-    build.disk(held.image, room / "tower.iso", plan, *words)
-    return machine.ran([*machine.PC.processors(4, False, "max"), "-m", "256", *firmware, "-cdrom", "tower.iso"], room)
+    build.disk(image, room / "tower.iso", plan, *words)
+    return machine.ran([*machine.PC.processors(processors, False, "max"), "-m", "256", *firmware, "-cdrom", "tower.iso"], room)
 
 
 def disk(held):
     """A disk that GRUB boots gives what the program gives, with BIOS and with UEFI; its words keep their spaces and quotes."""
     def one(words, path, firmware):
         with tempfile.TemporaryDirectory() as room:
-            status, *streams = by_grub(held, Path(room), words, ROOT / path, firmware)
+            status, *streams = by_grub(held.image, Path(room), words, ROOT / path, firmware)
         wanted, *texts = held.native(words, (ROOT / path).read_bytes())
         if firmware:  # UEFI itself and GRUB write to both lines before
             streams = [it[-len(text):] for it, text in zip(streams, texts)]
@@ -389,6 +389,13 @@ def disk(held):
     for name, reads, firmware in [("BIOS", typing_at.dots, []), ("UEFI", typing_at.dots, ["-bios", UEFI])]:
         if not firmware or UEFI.exists():
             yield f"the shell by GRUB and {name}, a keyboard and no serial line", lambda it=(reads, firmware): shell_of_disk(held, *it)
+            yield f"three processors by GRUB and {name}", lambda firmware=firmware: spread_by_grub(held, firmware)
+
+
+def spread_by_grub(held, firmware):
+    """All processors are found, by ACPI's tables where this firmware leaves them."""
+    with tempfile.TemporaryDirectory() as room:
+        return unlike(by_grub(held.trial, Path(room), ["spread3"], None, firmware, 3)[0], 7)
 
 
 def shell_of_disk(held, reads, firmware):
@@ -468,6 +475,7 @@ def held_on(it, image, trial):
     """The images of a machine, made if none are given."""
     room = tempfile.mkdtemp()
     atexit.register(shutil.rmtree, room, ignore_errors=True)
+    build.kit_module()  # before any thread starts
     program = None if image else build.program_of(None, Path(room), it)
     if not image:
         build.linked(program, build.image_of(it), machine=it)

@@ -282,7 +282,7 @@ static void *sums(void *of) {
   size sum = 0, again = 0;
   double half = 0, half_again = 0;
   for (size i = 0; i < 30000; i++) {
-    byte *p = malloc(i % 900);
+    byte *p = malloc(i % 900 + 1);
     sum += i * (size)of;
     half += (double)(size)of * 0.5;
     *(volatile byte *)p = 1;

@@ -33,6 +33,8 @@ CASES = 60  # of a kind, at most
 def first_difference(held, kinds):
     """The first case of these kinds that differs, or nothing."""
     for kind, _, name in (kind.partition("/") for kind in kinds):
+        if kind != "host" and not held.image.exists():
+            build.linked(held.program, held.image, held.host)
         named = [case for case in test.KINDS[kind][0](held) if case[0].startswith(name)]
         cases = test.part_of(named, CASES)
         with ThreadPoolExecutor(2) as pool:
@@ -51,7 +53,6 @@ def tried(edit, program):
         shutil.copytree(build.HOST, host)
         kinds = planted(edit, host)
         held = test.Held(room / "tower.elf", room / "trial.elf", host=host, program=program)
-        build.linked(program, held.image, host)
         build.linked(build.METAL / "trial.c", held.trial, host)
         return first_difference(held, kinds)
 

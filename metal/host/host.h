@@ -19,9 +19,9 @@ enum state { RESTS, READY, WAITS, ENDS, ENDED };
 enum reason { WOKEN, TICKED, GAVE_BACK };
 
 /* What a page may be used for. */
-enum kind { NO_PAGE, CODE, CONSTANT, DATA };
+enum kind { NO_PAGE, CODE, CONSTANT, DATA, DEVICE };
 
-#include "machine.h" /* of the processor's own: its instructions, its registers, its tables, its page entries */
+#include "machine.h" /* of the processor's own: its instructions, its registers, its tables, the bits of its page entries */
 
 struct thread {
   struct frame frame; /* its registers, while it does not run */
@@ -32,7 +32,7 @@ struct thread {
   int error_number, is_detached;
 };
 
-/* A processor: what it runs, its tables, and the stack of its own loop. */
+/* A processor: what it runs, its tables, and the stack of its own loop, up to its end. */
 struct __attribute__((aligned(PAGE))) processor {
   byte *stack_end; /* machine.h and start.S read this and the next two */
   struct processor *self;
@@ -56,16 +56,17 @@ extern size directories[4 * 512], stacks;
 extern unsigned stack_count;
 void *memcpy(void *to, const void *from, size bytes), *memmove(void *to, const void *from, size bytes);
 int begins_with(const char *text, const char *wanted), is_same(const char *text, const char *wanted), is_guard(size address);
-void lock(int *it), unlock(int *it), has_memory(size start, size end), uses(size start, size end);
-void set_pages(void), set_memory(void), begin_heap(void);
+void lock(int *it), unlock(int *it), has_memory(size start, size end);
+void set_page(size at, enum kind kind), set_pages(void), set_memory(void), begin_heap(void);
 
 /* streams.c: a serial line is a register for bytes, and one of two bits: it takes a byte, it has one; `flip` are bits that say so by 0 */
 struct line { size at; byte status, flip, takes, has; };
 extern struct line lines[3]; /* by the descriptor: what is typed, standard output, standard error */
-extern int is_listening, is_shell;
+extern int is_listening, is_shell, is_echoed;
 struct line line_16550(size at);
-void say(const char *text), say_number(size number, unsigned base), has_words(const char *text), set_words(const char *text);
-void take_first_word(void), take_typed(void), begin_typed(int is_echoed), show(long fd, byte one);
+void say(long fd, const char *text), say_number(const char *what, size number, unsigned base), has_words(const char *text), set_words(const char *text);
+void take_first_word(void), take_typed(void), show(long fd, byte one);
+byte ask_key(void);
 int key(void);
 long read(long fd, byte *buffer, size room), write(long fd, const byte *bytes, size count);
 _Noreturn void ends(const char *why, enum status status), _exit(long status);
@@ -79,14 +80,12 @@ void *run_program(void *none);
 int wake_all(void), give_back(enum state state), pthread_create(size *thread, const size *attributes, void *(*start)(void *), void *value);
 int pthread_join(size thread, void **value);
 long fails(int error), call_system(long number, unsigned *word, long operation, long value);
-void has_program(void), has_processor(unsigned number), waits(size had_come);
-_Noreturn void work(enum reason why), other_processor(struct processor *it);
+void has_processor(unsigned number), waits(size had_come), pthread_exit(void *value);
+_Noreturn void work(enum reason why), begin_program(void), other_processor(struct processor *it);
 
-/* shell.c */
-void *shell(void *none);
-void leave_command(int status);
+void *shell(void *none); /* shell.c */
 
 /* the machine's own */
 void set_tables(struct processor *it), forget_pages(void);
-void end_halts(void), set_timer(size nanoseconds), call_others(int is_first), microsecond(void), listen(void);
+void end_halts(void), set_timer(size nanoseconds), call_others(void), microsecond(void), listen(void);
 void power_off(int status); /* returns where nothing ends the machine */

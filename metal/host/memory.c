@@ -36,24 +36,22 @@ void unlock(int *it) {
 /* ---- memory, as loaders and the firmware tell of it */
 
 enum { MOST_REGIONS = 128 };
-static struct region memory[MOST_REGIONS], used[MOST_REGIONS] = {{0, MEMORY_START}, {(size)image_start, (size)image_end}};
-static unsigned memory_count, used_count = 2;
+static struct region memory[MOST_REGIONS];
+static unsigned memory_count;
 struct region input;
 
 /* Memory that may be used. What is above the top is of devices, or has no page. */
 void has_memory(size start, size end) {
   if (start < MEMORY_TOP && memory_count < MOST_REGIONS) memory[memory_count++] = (struct region){start, end < MEMORY_TOP ? end : MEMORY_TOP};
 }
-void uses(size start, size end) {
-  if (used_count < MOST_REGIONS) used[used_count++] = (struct region){start, end};
-}
 
 /* The largest region of memory that nobody uses. Each region is cut in two by what is used of it. */
 static struct region largest(void) {
+  const struct region used[] = {{0, MEMORY_START}, {(size)image_start, (size)image_end}, input};
   struct region best = {0, 0};
   for (unsigned i = 0; i < memory_count; i++) {
     struct region it = memory[i];
-    for (unsigned j = 0; j < used_count; j++) {
+    for (unsigned j = 0; j < sizeof used / sizeof *used; j++) {
       if (used[j].end <= it.start || used[j].start >= it.end) continue;
       if (used[j].end < it.end) has_memory(used[j].end, it.end);
       it.end = used[j].start > it.start ? used[j].start : it.start;
@@ -66,27 +64,29 @@ static struct region largest(void) {
 /* ---- pages: each address is at itself. There are 4 GiB, in pages of 2 MiB, some of them cut into pages of 4 KiB before any other processor begins */
 
 enum { MOST_CUT = MOST_THREADS * STACK_BYTES / LARGE_PAGE + 8 };
-size directories[4 * 512] __attribute__((aligned(PAGE)));
+size directories[4 * 512] __attribute__((aligned(PAGE))) = {FIRST_PAGES};
 static size *cut[4 * 512]; /* the table of a page that is cut */
 
+static size entry(size at, size bits) { return at >> ENTRY_SHIFT | bits; }
+
 /* Sets one page of 4 KiB. */
-static void set_page(size at, enum kind kind) {
+void set_page(size at, enum kind kind) {
   static size tables[MOST_CUT][512] __attribute__((aligned(PAGE)));
   static unsigned count;
   size large = at / LARGE_PAGE;
   if (!cut[large]) {
     if (count == MOST_CUT) ends("host: the image is too large", NO_ROOM);
     cut[large] = tables[count++];
-    for (size i = 0; i < 512; i++) cut[large][i] = page_entry(large * LARGE_PAGE + i * PAGE, DATA);
-    directories[large] = table_entry((size)cut[large]);
+    for (size i = 0; i < 512; i++) cut[large][i] = entry(large * LARGE_PAGE + i * PAGE, page_bits[DATA]);
+    directories[large] = entry((size)cut[large], TABLE);
   }
-  cut[large][at / PAGE % 512] = page_entry(at, kind);
+  cut[large][at / PAGE % 512] = entry(at, page_bits[kind]);
 }
 
 /* There is no page at 0; code and constants are not written; nothing but code is run. */
 void set_pages(void) {
   for (size i = 0; i < 4 * 512; i++)
-    if (!cut[i]) directories[i] = large_entry(i * LARGE_PAGE);
+    if (!cut[i]) directories[i] = entry(i * LARGE_PAGE, page_bits[i * LARGE_PAGE < MEMORY_START ? DEVICE : DATA] ^ LARGE);
   set_page(0, NO_PAGE);
   for (size at = (size)image_start; at < (size)constants_end; at += PAGE) set_page(at, at < (size)text_end ? CODE : CONSTANT);
 }
@@ -99,20 +99,10 @@ unsigned stack_count;
 /* Whether there is no page since the stack above it ends there. */
 int is_guard(size address) { return address - stacks < (size)stack_count * STACK_BYTES && (address - stacks) % STACK_BYTES < GUARD_BYTES; }
 
-/* Takes two thirds of a region from its end, or as much as all threads need. */
-static void set_stacks(struct region room) {
-  size count = (room.end - room.start) / (STACK_BYTES + STACK_BYTES / 2);
-  stack_count = count < MOST_THREADS ? count : MOST_THREADS;
-  if (stack_count == 0) ends("host: too little memory", NO_ROOM);
-  stacks = (room.end & ~(size)(PAGE - 1)) - (size)stack_count * STACK_BYTES;
-  for (size at = stacks; at < room.end; at += PAGE)
-    if (is_guard(at)) set_page(at, NO_PAGE);
-}
-
 /* ---- the heap: free blocks are in a list, by address */
 
 struct block { size bytes; struct block *next; }; /* a block begins with its bytes; `next` is of a free one */
-enum { HEAD = 16, LEAST_BLOCK = 32 };
+enum { HEAD = 16 };
 static struct block *free_blocks;
 static size heap;
 static int heap_lock;
@@ -125,14 +115,19 @@ void begin_heap(void) {
   *free_blocks = (struct block){stacks - heap, 0};
 }
 
-/* Looks at what the loader left, and takes the largest region for the heap and the stacks. A loader need not look whether what it loads fits. */
+/* Looks at what the loader left, and takes the largest region: two thirds from its end for stacks, or as much as all threads need, and the rest for the heap. A
+   loader need not look whether what it loads fits. */
 void set_memory(void) {
   size top = 0;
   for (unsigned i = 0; i < memory_count; i++) top = memory[i].end > top ? memory[i].end : top;
   if (input.end > top) ends("host: the plan is larger than the memory", NO_ROOM);
-  uses(input.start, input.end);
   struct region room = largest();
-  set_stacks(room);
+  size count = (room.end - room.start) / (STACK_BYTES + STACK_BYTES / 2);
+  stack_count = count < MOST_THREADS ? count : MOST_THREADS;
+  if (stack_count == 0) ends("host: too little memory", NO_ROOM);
+  stacks = (room.end & ~(size)(PAGE - 1)) - (size)stack_count * STACK_BYTES;
+  for (size at = stacks; at < room.end; at += PAGE)
+    if (is_guard(at)) set_page(at, NO_PAGE);
   heap = (room.start + HEAD - 1) & ~(size)(HEAD - 1);
   forget_pages();
   begin_heap();
@@ -141,12 +136,12 @@ void set_memory(void) {
 /* Room for some bytes that nobody else has, or 0: of the first free block that is large enough. */
 static byte *take(size bytes) {
   if (bytes > (size)1 << 32) return 0;
-  size whole = bytes + HEAD < LEAST_BLOCK ? LEAST_BLOCK : (bytes + HEAD + HEAD - 1) & ~(size)(HEAD - 1);
+  size whole = (bytes + HEAD + HEAD - 1) & ~(size)(HEAD - 1);
   struct block **at = &free_blocks, *it;
   lock(&heap_lock);
   while (*at && (*at)->bytes < whole) at = &(*at)->next;
   it = *at;
-  if (it && it->bytes - whole >= LEAST_BLOCK) {
+  if (it && it->bytes > whole) {
     *at = (struct block *)((size)it + whole);
     **at = (struct block){it->bytes - whole, it->next};
     it->bytes = whole;

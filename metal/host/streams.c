@@ -68,11 +68,10 @@ long rattle_arg(size i, byte *buffer, size room) {
 struct line lines[3];
 static int lines_lock;
 
-enum { MOST_TYPED = 1 << 10, END_OF_INPUT = 4 };
+enum { MOST_TYPED = 1 << 10, CONTROL_D = 4, DELETE = 127 };
 static byte typed[MOST_TYPED];
 static _Atomic size typed_in, typed_out; /* how many bytes came in, and how many went out */
-static int typed_lock, is_over, is_echoed;
-int is_listening; /* whether anything is typed at all */
+int is_listening, is_echoed;             /* whether anything is typed at all, and whether it is shown as it is read */
 
 /* Sets a 16550 to 115,200 baud, 8 bits, no parity, with queues. What was typed before the boot is kept. */
 struct line line_16550(size at) {
@@ -101,15 +100,15 @@ long write(long fd, const byte *bytes, size count) {
 }
 long __write(long fd, const byte *bytes, size count) { return write(fd, bytes, count); }
 
-/* What the host itself says goes to standard error. It takes no lock, since whoever has it may be what failed. */
-void say(const char *text) {
-  for (; *text; text++) put(2, *text);
+/* Says a text without the lock, since whoever has it may be what failed. What the host says of its own goes to standard error. */
+void say(long fd, const char *text) {
+  for (; *text; text++) put(fd, *text);
 }
-void say_number(size number, unsigned base) {
+void say_number(const char *what, size number, unsigned base) {
   char text[24] = {0}, *at = text + sizeof text - 1;
   do *--at = "0123456789abcdef"[number % base]; while (number /= base);
-  say(base == 16 ? "0x" : "");
-  say(at);
+  say(2, what);
+  say(2, at);
 }
 
 /* ---- standard input: what the loader left; or, where the first word is `typed` or `shell`, what is typed. An interrupt tells of it. It goes from the line's
@@ -126,29 +125,30 @@ void take_typed(void) {
   if (typed_in != before) wake_all();
 }
 
-/* Begins an input that is typed, and that is shown as it is read. */
-void begin_typed(int it_is_echoed) {
-  is_over = 0;
-  is_echoed = it_is_echoed;
+/* The first byte that was typed and that nobody read, or -1. */
+static int next_typed(void) {
+  if (typed_out == typed_in) return -1;
+  byte one = typed[typed_out % MOST_TYPED];
+  return one == '\r' ? '\n' : one;
 }
 
-/* Moves what was typed to a buffer, up to a control-D: an end of the input, which stays. */
+/* Moves what was typed to a buffer, up to a control-D: an end of the input, which stays. One thread reads. */
 static long read_typed(byte *buffer, size room) {
   size count = 0;
-  for (size had_come = wakes; room > 0; had_come = wakes) {
-    lock(&typed_lock);
-    for (; count < room && !is_over && typed_out != typed_in; typed_out++) {
-      byte one = typed[typed_out % MOST_TYPED];
-      is_over = one == END_OF_INPUT;
-      if (!is_over) buffer[count++] = one == '\r' ? '\n' : one;
-    }
-    unlock(&typed_lock);
-    if (count > 0 || is_over) break;
+  for (size had_come = wakes; room > 0 && next_typed() < 0; had_come = wakes) {
     waits(had_come);
     leave();
   }
+  for (; count < room && next_typed() >= 0 && next_typed() != CONTROL_D; typed_out++) buffer[count++] = next_typed();
   if (is_echoed) write(1, buffer, count);
   return count;
+}
+
+/* Takes the next byte, which may be a control-D. What deletes is a backspace. */
+byte ask_key(void) {
+  byte one = CONTROL_D;
+  if (!read_typed(&one, 1)) typed_out++;
+  return one == DELETE ? '\b' : one;
 }
 
 long read(long fd, byte *buffer, size room) {
@@ -168,55 +168,52 @@ static _Noreturn void stand_still(void) {
   for (;;) idle();
 }
 
-/* From here on no other processor writes. */
+/* From here on no other processor writes. A fault in what tells of one ends the run at once. */
 static void begin_end(int status) {
   enum { MOMENT = 100000 };
   static struct processor *ender; /* the one that ends the run */
   struct processor *nobody = 0;
   interrupts_off();
-  if (__atomic_compare_exchange_n(&ender, &nobody, me(), 0, __ATOMIC_SEQ_CST, __ATOMIC_SEQ_CST))
-    for (int i = 0; i < MOMENT && __atomic_exchange_n(&lines_lock, 1, __ATOMIC_SEQ_CST); i++) pause();
-  else if (nobody != me())
+  if (!__atomic_compare_exchange_n(&ender, &nobody, me(), 0, __ATOMIC_SEQ_CST, __ATOMIC_SEQ_CST)) {
+    if (nobody == me()) power_off(status);
     stand_still();
-  else
-    power_off(status); /* a fault in what tells of one */
+  }
+  for (int i = 0; i < MOMENT && __atomic_exchange_n(&lines_lock, 1, __ATOMIC_SEQ_CST); i++) pause();
 }
 
 /* Ends the run, with a word where there is one. QEMU may go on for a moment behind its end, so the status is told later: where nothing ended the machine. */
 static _Noreturn void end_run(const char *why, int status) {
   enum { MOMENT = 300000 };
-  say(why);
+  say(2, why);
   power_off(status);
   for (int i = 0; i < MOMENT; i++) microsecond();
-  say("status ");
-  say_number(status, 10);
-  say("\n");
+  say_number("status ", status, 10);
+  say(2, "\n");
   stand_still();
 }
 
 _Noreturn void _exit(long status) {
-  if (is_shell && (int)status < NO_ROOM) leave_command(status);
+  if (is_shell && (int)status < NO_ROOM) pthread_exit((void *)status);
   begin_end(status);
   end_run("", status);
 }
 _Noreturn void ends(const char *why, enum status status) {
   begin_end(status);
-  say(why);
+  say(2, why);
   end_run("\n", status);
 }
 _Noreturn void abort(void) { ends("host: abort", ABORTED); }
 
 /* Tells of an exception, and where it was. */
 _Noreturn void tell_trap(const char *what, size number, size error, const struct frame *it, size address) {
-  const size told[] = {number, error, it->at, it->stack, address};
-  static const char *const told_as[] = {", number ", ", error ", ", at ", ", stack ", ", address "};
   begin_end(TRAPPED);
-  say("host: ");
-  say(what);
-  for (unsigned i = 0; i < sizeof told / sizeof *told; i++) {
-    say(told_as[i]);
-    say_number(told[i], i == 0 ? 10 : 16);
-  }
+  say(2, "host: ");
+  say(2, is_same(what, "a page fault") && is_guard(address) ? "a full stack" : what);
+  say_number(", number ", number, 10);
+  say_number(", error 0x", error, 16);
+  say_number(", at 0x", it->at, 16);
+  say_number(", stack 0x", it->stack, 16);
+  say_number(", address 0x", address, 16);
   end_run("\n", TRAPPED);
 }
 

@@ -8,6 +8,7 @@
 
 long main(void); /* the program's own */
 
+_Static_assert(sizeof(struct processor) == 2 * PAGE, "each start.S counts on it");
 struct processor processors[MOST_PROCESSORS];
 unsigned processor_count;
 _Atomic size wakes;
@@ -87,12 +88,10 @@ _Noreturn void work(enum reason why) {
   own->yields = why == GAVE_BACK && it->state == READY ? own->yields + 1 : 0;
   if (it && it->state == ENDS) end(it);
   if (own == processors) take_typed();
-  int have_all_yielded = own->yields > 0 && own->yields >= own->threads;
-  if (have_all_yielded && up_count > 1) {
+  if (own->yields > 0 && own->yields >= own->threads && up_count > 1) {
     set_timer(MOMENT);
     halt(own);
   }
-  if (have_all_yielded) pause();
   struct thread *next = next_of(own);
   if (next) run(own, next);
   size before = wakes;
@@ -115,21 +114,23 @@ void waits(size had_come) {
   me()->runs->state = WAITS;
 }
 
-static void begin(void) {
-  struct thread *own = me()->runs;
-  own->value = own->start(own->value);
+void pthread_exit(void *value) {
+  me()->runs->value = value;
   give_back(ENDS);
 }
+
+static void begin(void) { pthread_exit(me()->runs->start(me()->runs->value)); }
 
 /* ---- processors: the first one's record is the first, and each other has its own from the time that it is named */
 
 void has_processor(unsigned number) {
   if (processor_count == MOST_PROCESSORS || (processor_count > 0 && number == processors[0].number)) return;
   struct processor *it = &processors[processor_count++];
-  it->stack_end = it->stack + sizeof it->stack;
+  it->stack_end = (byte *)(it + 1);
   it->self = it;
   it->number = number;
   it->is_halted = 1;
+  it->tables.frame_end = &it->halted + 1;
 }
 
 /* Where start.S goes with another processor and its record. */
@@ -139,11 +140,11 @@ _Noreturn void other_processor(struct processor *it) {
   work(WOKEN);
 }
 
-/* Makes the others begin, the first time that it is called, and asks them until all have come, for some seconds. Until then the program runs on one. */
+/* Makes the others begin, the first time that it is called, and calls them until all have come, for some seconds. Until then the program runs on one. */
 static void begin_others(void) {
   enum { ROUNDS = 200, ROUND = 20000 };
   for (int round = 0; round < ROUNDS && up_count < processor_count; round++) {
-    call_others(round == 0);
+    call_others();
     for (int i = 0; i < ROUND && up_count < processor_count; i++) microsecond();
   }
   if (up_count < processor_count) ends("host: a processor did not start", NO_PROCESSOR);
@@ -164,10 +165,11 @@ static void starts(struct thread *it, struct processor *at, void *(*start)(void 
 
 void *run_program(void *none) { _exit(main()); }
 
-/* Makes the program, or the shell, the first thread, for the first processor to begin with. */
-void has_program(void) {
+/* The first processor begins with the program, or with the shell. */
+_Noreturn void begin_program(void) {
   take_first_word();
   starts(&threads[0], processors, is_shell ? shell : run_program, 0);
+  work(WOKEN);
 }
 
 /* The processor with the fewest threads, and of those the first. */
@@ -228,25 +230,19 @@ long fails(int error) {
   return -1;
 }
 
-/* Linux's futex: a wait that ends at once where the word is not the number, and that may end at any time, and a wake of all that wait. A thread that has to
-   wait does so when it gives its processor back. */
-static long futex(long number, unsigned *word, long operation, long value) {
+/* Linux's futex: a wait that ends at once where the word is not the number, and that may end at any time, and a wake of all that wait. It answers as
+   Linux does: an error is its number, negative. A thread that has to wait does so when it gives its processor back. */
+long call_system(long number, unsigned *word, long operation, long value) {
   enum { FUTEX = 202, WAIT = 0x80, WAKE = 0x81 };
-  if (number != FUTEX || ((int)operation != WAIT && (int)operation != WAKE)) return fails(NO_CALL);
+  if (number != FUTEX || ((int)operation != WAIT && (int)operation != WAKE)) return -NO_CALL;
   if ((int)operation == WAKE) return wake_all();
   size had_come = wakes;
-  if (__atomic_load_n(word, __ATOMIC_SEQ_CST) != (unsigned)value) return fails(TRY_AGAIN);
+  if (__atomic_load_n(word, __ATOMIC_SEQ_CST) != (unsigned)value) return -TRY_AGAIN;
   waits(had_come);
   return 0;
 }
 long syscall(long number, unsigned *word, long operation, long value) {
-  long answer = futex(number, word, operation, value);
+  long answer = call_system(number, word, operation, value);
   if (me()->runs->state == WAITS) leave();
-  return answer;
-}
-
-/* The same by the instruction syscall, a trap, which answers as Linux does: an error is its number, negative. */
-long call_system(long number, unsigned *word, long operation, long value) {
-  long answer = futex(number, word, operation, value);
-  return answer < 0 ? -(long)rattle_errno() : answer;
+  return answer < 0 ? fails(-answer) : answer;
 }

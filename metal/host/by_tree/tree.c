@@ -44,17 +44,16 @@ static void set_second_line(size configuration, size ports) {
   lines[2] = line_16550(ports + AT);
 }
 
-void begin_by_tree(unsigned number, const byte *tree, const struct line *line, size configuration, size ports) {
+_Noreturn void begin_by_tree(unsigned number, const byte *tree, size configuration, size ports) {
   has_processor(number);
-  lines[0] = lines[1] = lines[2] = *line;
-  for (size i = 0; i < 4; i++) root[i] = table_entry((size)&directories[i * 512]);
+  for (size i = 0; i < 4; i++) root[i] = (size)&directories[i * 512] >> ENTRY_SHIFT | TABLE;
   set_pages();
   set_tables(processors);
   set_second_line(configuration, ports);
   has_words("tower ");
   read_tree(tree);
   set_memory();
-  has_program();
+  begin_program();
 }
 
 /* There is no screen and no keyboard. */
@@ -62,7 +61,5 @@ void show(long fd, byte one) {}
 int key(void) { return -1; }
 
 /* The program asks whether the processor has what x86-64-v2 has; here the compiler knew the processor. */
-const void *__x86_get_cpuid_feature_leaf(unsigned leaf) {
-  static const unsigned all[8] = {-1u, -1u, -1u, -1u, -1u, -1u, -1u, -1u};
-  return all;
-}
+static const unsigned features[8] = {-1u, -1u, -1u, -1u, -1u, -1u, -1u, -1u};
+const void *__x86_get_cpuid_feature_leaf(unsigned leaf) { return features; }

@@ -7,19 +7,10 @@ struct __attribute__((aligned(16))) frame { size registers[29], floats[32], cont
 #define MEMORY_START ((size)0x80200000)
 #define FIRST_FRAME .flags = 0x2120 /* in supervisor mode, with interrupts and floats */
 
-/* Bits: it is there, and may be read, written, run; it was used, and written. */
-static inline size page_entry(size at, enum kind kind) {
-  static const byte bits[] = {[NO_PAGE] = 0, [CODE] = 0xCB, [CONSTANT] = 0xC3, [DATA] = 0xC7};
-  return kind == NO_PAGE ? 0 : at >> 12 << 10 | bits[kind];
-}
-static inline size large_entry(size at) { return page_entry(at, DATA); }
-static inline size table_entry(size at) { return at >> 12 << 10 | 1; }
+/* Bits of a page entry: it is there, and may be read, written, run; it was used, and written. */
+enum { ENTRY_SHIFT = 2, TABLE = 1, LARGE = 0 };
+static const size page_bits[] = {[CODE] = 0xCB, [CONSTANT] = 0xC3, [DATA] = 0xC7, [DEVICE] = 0xC7};
 
-static inline struct processor *me(void) {
-  struct processor *self;
-  __asm__ volatile("mv %0, tp" : "=r"(self));
-  return self;
-}
 static inline void interrupts_off(void) { __asm__ volatile("csrci sstatus, 2" : : : "memory"); }
 static inline void interrupts_on(void) { __asm__ volatile("csrsi sstatus, 2" : : : "memory"); }
 static inline void idle(void) { __asm__ volatile("wfi" : : : "memory"); }

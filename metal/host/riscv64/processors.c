@@ -1,8 +1,8 @@
 /* Harts: their tables, traps, timers, and how the others begin, by the calls of SBI. */
 #include "host.h"
-extern byte trap[], others_start[];
+extern byte trap[], start[];
 
-_Static_assert(sizeof(struct processor) == 2 * PAGE && __builtin_offsetof(struct processor, number) == 40, "start.S counts on it");
+_Static_assert(__builtin_offsetof(struct processor, number) == 40, "start.S counts on it");
 
 /* ---- the calls of SBI: an extension, and a function of it; an error, or 0 */
 
@@ -16,16 +16,19 @@ static long sbi(long extension, long function, long a, long b, long c) {
 /* ---- interrupts: from another hart, of the timer, and of the first line. This one is on in a halt of the first hart alone, since it stays until its byte is
    taken */
 
-enum { SOFTWARE = 1 << 1, TIMER = 1 << 5, DEVICE = 1 << 9, FLOATS = 1 << 13, LINE = 10 };
+enum { SOFTWARE = 1 << 1, TIMER = 1 << 5, EXTERNAL = 1 << 9, FLOATS = 1 << 13, LINE = 10 };
 static volatile unsigned *plic(size place) { return (volatile unsigned *)(0x0C000000 + place); }
 static size context(void) { return 2 * (size)processors[0].number + 1; }
 static volatile unsigned *claim(void) { return plic(0x200004 + 0x1000 * context()); }
 
-/* Ends the halt of each other hart, or its next one if it is in none. */
+/* Ends the halt of each hart, or its next one if it is in none. Only one hart at a time asks for it: those that wait for a lock of the firmware's would use
+   up their turns, where QEMU runs harts by turns. */
 void end_halts(void) {
-  __asm__ volatile("fence iorw, iorw" : : : "memory");
-  for (unsigned i = 0; i < processor_count; i++)
-    if (&processors[i] != me()) sbi(IPI, 0, 1, processors[i].number, 0);
+  enum { ALL = -1 };
+  static int calls_lock;
+  lock(&calls_lock);
+  sbi(IPI, 0, 0, ALL, 0);
+  unlock(&calls_lock);
 }
 
 static size now(void) {
@@ -35,8 +38,7 @@ static size now(void) {
 }
 
 void set_timer(size nanoseconds) {
-  enum { TICK = 100 }; /* nanoseconds */
-  sbi(TIME, 0, now() + nanoseconds / TICK, 0, 0);
+  sbi(TIME, 0, now() + nanoseconds / 100, 0, 0); /* it counts in 100 of them */
   __asm__ volatile("csrs sie, %0" : : "r"(TIMER));
 }
 
@@ -45,24 +47,20 @@ void listen(void) {
   *plic(0x2000 + 0x80 * context()) = 1 << LINE;
   claim()[-1] = 0;
   out(lines[0].at + 1, 1);
-  __asm__ volatile("csrs sie, %0" : : "r"(DEVICE));
+  __asm__ volatile("csrs sie, %0" : : "r"(EXTERNAL));
 }
 
 /* What start.S calls in each trap, with the registers that it kept. */
 _Noreturn void trapped(struct frame *it, size cause, size address) {
-  enum { BREAK = 3, READS = 13, WRITES = 15, NAMES, FROM_HART = 1, FROM_TIMER = 5, FROM_DEVICE = 9, IS_INTERRUPT = 63 };
+  enum { BREAK = 3, NAMES = 16, FROM_HART = 1, FROM_TIMER = 5, FROM_DEVICE = 9 }; /* the last three behind the highest bit */
   static const char *const names[NAMES] = {[2] = "an instruction that is none", [5] = "an access fault", [7] = "an access fault", [12] = "a page fault",
-                                           [READS] = "a page fault", [WRITES] = "a page fault"};
-  int is_interrupt = cause >> IS_INTERRUPT;
+                                           [13] = "a page fault", [15] = "a page fault"};
   size number = cause << 1 >> 1;
-  if (!is_interrupt && number != BREAK) {
-    int is_full = (number == READS || number == WRITES) && is_guard(address);
-    tell_trap(is_full ? "a full stack" : number < NAMES && names[number] ? names[number] : "an exception", number, 0, it, address);
-  }
-  if (!is_interrupt) {
+  if (cause == BREAK) {
     it->at += 4;
     work(GAVE_BACK);
   }
+  if (cause == number) tell_trap(cause < NAMES && names[cause] ? names[cause] : "an exception", cause, 0, it, address);
   if (number == FROM_HART) __asm__ volatile("csrc sip, %0" : : "r"(SOFTWARE));
   if (number == FROM_DEVICE) *claim() = *claim();
   if (number != FROM_HART) __asm__ volatile("csrc sie, %0" : : "r"((size)1 << number));
@@ -72,11 +70,11 @@ _Noreturn void trapped(struct frame *it, size cause, size address) {
 /* ---- tables */
 
 void set_tables(struct processor *it) {
-  it->tables.frame_end = &it->halted + 1;
   __asm__ volatile("csrw stvec, %0" : : "r"(trap));
   __asm__ volatile("csrs sstatus, %0" : : "r"(FLOATS));
   __asm__ volatile("csrw sie, %0" : : "r"(SOFTWARE));
   __asm__ volatile("sfence.vma; csrw satp, %0; sfence.vma" : : "r"((size)8 << 60 | (size)root >> 12) : "memory");
+  if (sbi(TIME, 0, -1, 0, 0)) ends("host: there is no timer", NO_PROCESSOR);
 }
 
 void forget_pages(void) { __asm__ volatile("sfence.vma" : : : "memory"); }
@@ -87,14 +85,13 @@ void microsecond(void) {
   for (size began = now(); now() - began < 10;);
 }
 
-void call_others(int is_first) {
-  for (unsigned i = 1; is_first && i < processor_count; i++) sbi(HSM, 0, processors[i].number, (long)others_start, (long)&processors[i]);
+void call_others(void) {
+  for (unsigned i = 1; i < processor_count; i++) sbi(HSM, 0, processors[i].number, (long)start, 0);
 }
 
-void first_processor(size hart, const byte *tree) {
-  const struct line line = line_16550(0x10000000);
-  begin_by_tree(hart, tree, &line, 0x30000000, 0x03000000);
-  if (sbi(TIME, 0, -1, 0, 0)) ends("host: there is no timer", NO_PROCESSOR);
+_Noreturn void first_processor(size hart, const byte *tree) {
+  lines[0] = lines[1] = lines[2] = line_16550(0x10000000);
+  begin_by_tree(hart, tree, 0x30000000, 0x03000000);
 }
 
 /* QEMU's test device ends the machine with a status. */

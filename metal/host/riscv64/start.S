@@ -4,32 +4,21 @@
         .set NUMBER, 40
         .set PROCESSOR_BYTES, 8192
         .set FRAME_BYTES, 528           /* as machine.h has it: 29 registers, 32 floats, and four more */
-        .set CONTROL, 8*61
-        .set AT, 8*62
-        .set FLAGS, 8*63
-        .set STACK, 8*64
 
         .section .boot, "ax"
-        .global start, others_start
-start:                                  /* a0: this hart; a1: the device tree */
+        .global start
+start:                                  /* a0: this hart; a1: the device tree, for the first one */
         la      tp, processors
+        li      t1, PROCESSOR_BYTES
         lw      t0, processor_count
         bnez    t0, 1f
-        la      sp, boot_stack_end
+        add     sp, tp, t1
         call    first_processor
-        ld      sp, (tp)
-        li      a0, 0
-        call    work
-1:      lw      t0, NUMBER(tp)          /* OpenSBI 1.1 may send another hart here: one that looks for its start before all of it is written */
-        mv      a1, tp
-        beq     t0, a0, others_start
-        li      t0, PROCESSOR_BYTES
-        add     tp, tp, t0
+1:      lw      t0, NUMBER(tp)          /* another hart looks for its record */
+        beq     t0, a0, 2f
+        add     tp, tp, t1
         j       1b
-
-others_start:                           /* a0: this hart; a1: its record */
-        mv      tp, a1
-        ld      sp, (tp)
+2:      ld      sp, (tp)
         mv      a0, tp
         call    other_processor
 
@@ -54,14 +43,11 @@ trap:   csrw    sscratch, sp
         ld      sp, FRAME_END(tp)
         addi    sp, sp, -FRAME_BYTES
         each    sd, fsd
-        csrr    t0, fcsr
-        csrr    t1, sepc
-        csrr    t2, sstatus
-        csrr    t3, sscratch
-        sd      t0, CONTROL(sp)
-        sd      t1, AT(sp)
-        sd      t2, FLAGS(sp)
-        sd      t3, STACK(sp)
+        .irp    it, fcsr, sepc, sstatus, sscratch
+        csrr    t0, \it
+        sd      t0, 8*n(sp)
+        .set    n, n + 1
+        .endr
         mv      a0, sp
         csrr    a1, scause
         csrr    a2, stval
@@ -70,17 +56,12 @@ trap:   csrw    sscratch, sp
 
 /* resume(record): goes on with what was kept. */
 resume: mv      sp, a0
-        ld      t0, CONTROL(sp)
-        ld      t1, AT(sp)
-        ld      t2, FLAGS(sp)
-        csrw    fcsr, t0
-        csrw    sepc, t1
-        csrw    sstatus, t2
+        .set    n, 61
+        .irp    it, fcsr, sepc, sstatus, sscratch
+        ld      t0, 8*n(sp)
+        csrw    \it, t0
+        .set    n, n + 1
+        .endr
         each    ld, fld
-        ld      sp, STACK(sp)
+        csrr    sp, sscratch
         sret
-
-        .bss
-        .balign 16
-        .skip   8192
-boot_stack_end:

@@ -3,12 +3,9 @@
 
 enum { GS_BASE = 0xC0000101, APIC_BASE = 0x1B, X2APIC = 0x800 }; /* model registers */
 enum { TICK = 32, WAKE, LEAVE, SPURIOUS = 47, TRAPS };           /* numbers of traps; those beneath are exceptions */
-extern byte traps[], others_start[], others_end[];
-extern const size first_gdt[4];
+extern byte traps[];
 struct processor *next_up = processors + 1; /* start.S gives it to the next that begins, whichever that is */
 static int has_x2apic;
-
-_Static_assert(sizeof(struct processor) == 2 * PAGE, "start.S counts on it");
 
 static size model_register(unsigned number) {
   unsigned low, high;
@@ -37,15 +34,13 @@ const void *__x86_get_cpuid_feature_leaf(unsigned leaf) {
 /* ---- interrupts: registers of a processor's own chip, in memory or in x2APIC mode among the model's */
 
 enum { NAME = 0x20, PRIORITY = 0x80, END = 0xB0, CONTROL = 0xF0, COMMAND = 0x300, TO = 0x310, TIMER = 0x320, COUNT = 0x380, DIVIDE = 0x3E0 };
-enum { TO_ALL_OTHERS = 3 << 18, IS_BEING_SENT = 1 << 12, INIT = 0x4500, BEGIN = 0x4600, OTHERS_PAGE = 0x8000 };
+enum { TO_ALL_OTHERS = 3 << 18, IS_BEING_SENT = 1 << 12, INIT = 0x4500, BEGIN = 0x4600 };
 
 static volatile unsigned *apic_register(unsigned place) { return (volatile unsigned *)((model_register(APIC_BASE) & 0xFFFFFF000) + place); }
 
 static void set_apic(unsigned place, size value) {
-  if (has_x2apic)
-    set_model_register(X2APIC + place / 16, value);
-  else
-    *apic_register(place) = value;
+  if (has_x2apic) return set_model_register(X2APIC + place / 16, value);
+  *apic_register(place) = value;
 }
 
 /* Sends a command; what was written before is seen by whom it goes to. */
@@ -64,23 +59,22 @@ void set_timer(size nanoseconds) { set_apic(COUNT, nanoseconds); }
 
 /* From now on interrupts of the keyboard and of the first serial line, the first and the fourth of the ISA bus, end a halt of the first processor. */
 void listen(void) {
-  enum { REDIRECTION = 0x10, WINDOW = 0x10, BYTES = 2 };
-  static const byte devices[] = {1, 4};
+  enum { REDIRECTION = 0x10, WINDOW = 4, KEYBOARD = 1, LINE = 4 };
   volatile unsigned *chip = (volatile unsigned *)io_apic;
-  for (unsigned i = 0; io_apic && i < sizeof devices; i++) {
-    chip[0] = REDIRECTION + BYTES * devices[i] + 1;
-    chip[WINDOW / 4] = processors[0].number << 24;
-    chip[0] = REDIRECTION + BYTES * devices[i];
-    chip[WINDOW / 4] = WAKE;
+  for (unsigned device = KEYBOARD; io_apic && device <= LINE; device += LINE - KEYBOARD) {
+    chip[0] = REDIRECTION + 2 * device + 1;
+    chip[WINDOW] = processors[0].number << 24;
+    chip[0] = REDIRECTION + 2 * device;
+    chip[WINDOW] = WAKE;
   }
   out(lines[0].at + 1, 1); /* one, where the line has a byte */
 }
 
 /* What start.S calls in each trap, with the registers that it kept. Without its bit the instruction syscall is none, and so a trap; this stands for it. */
 _Noreturn void trapped(struct frame *it) {
-  enum { NO_INSTRUCTION = 6, PAGE_FAULT = 14, SYSCALL = 0x050F };
+  enum { NO_INSTRUCTION = 6, SYSCALL = 0x050F };
   static const char *const names[TICK] = {"a division by 0", [NO_INSTRUCTION] = "an instruction that is none", [8] = "a fault in a fault",
-                                          [13] = "a general protection fault", [PAGE_FAULT] = "a page fault"};
+                                          [13] = "a general protection fault", [14] = "a page fault"};
   if (it->number == NO_INSTRUCTION && *(const unsigned short *)it->at == SYSCALL) {
     it->rax = call_system(it->rax, (unsigned *)it->rdi, it->rsi, it->rdx);
     it->at += 2;
@@ -89,8 +83,7 @@ _Noreturn void trapped(struct frame *it) {
   if (it->number < TICK) {
     size address;
     __asm__ volatile("movq %%cr2, %0" : "=r"(address));
-    const char *name = it->number == PAGE_FAULT && is_guard(address) ? "a full stack" : names[it->number];
-    tell_trap(name ? name : "an exception", it->number, it->error, it, address);
+    tell_trap(names[it->number] ? names[it->number] : "an exception", it->number, it->error, it, address);
   }
   if (it->number < LEAVE) set_apic(END, 0);
   work(it->number == LEAVE ? GAVE_BACK : it->number == TICK ? TICKED : WOKEN);
@@ -100,17 +93,15 @@ _Noreturn void trapped(struct frame *it) {
 
 /* Loads what a processor needs to know itself and to take traps. Each trap begins behind the record that keeps registers. */
 void set_tables(struct processor *it) {
-  enum { STUB = 16, TASK_AT = 0x20, GATE = 0x8E, TASK = 0x89, HAS_APIC = 1 << 9, IS_X2APIC = 1 << 10, IS_ON = 1 << 8, UNDIVIDED = 0xB };
+  enum { STUB = 16, TASK_AT = 0x10, GATE = 0x8E, TASK = 0x89, HAS_APIC = 1 << 9, IS_X2APIC = 1 << 10, IS_ON = 1 << 8, UNDIVIDED = 0xB };
   static size gates[TRAPS][2];
   unsigned has[4];
   for (size i = 0, to = (size)traps; i < TRAPS; i++, to += STUB) /* beneath 4 GiB */
     gates[i][0] = (to & 0xFFFF) | CODE_AT << 16 | (size)1 << 32 | (size)GATE << 40 | to >> 16 << 48;
   struct tables *own = &it->tables;
   size task = (size)own;
-  memcpy(own->gdt, first_gdt, 4 * sizeof(size));
-  own->gdt[4] = (sizeof *own - sizeof own->gdt - 1) | (task & 0xFFFFFF) << 16 | (size)TASK << 40 | task >> 24 << 56;
-  own->permissions = sizeof *own - sizeof own->gdt;
-  own->frame_end = &it->halted + 1;
+  own->gdt[CODE_AT / 8] = 0x00AF9B000000FFFF;
+  own->gdt[TASK_AT / 8] = (sizeof *own - sizeof own->gdt - 1) | (task & 0xFFFFFF) << 16 | (size)TASK << 40 | task >> 24 << 56;
   struct __attribute__((packed)) { unsigned short last; const void *at; } gdt = {sizeof own->gdt - 1, own->gdt}, idt = {sizeof gates - 1, gates};
   __asm__ volatile("lgdt %0; lidt %1; ltr %w2" : : "m"(gdt), "m"(idt), "r"(TASK_AT) : "memory");
   set_model_register(GS_BASE, (size)it);
@@ -123,6 +114,7 @@ void set_tables(struct processor *it) {
   set_apic(CONTROL, IS_ON | SPURIOUS);
   set_apic(DIVIDE, UNDIVIDED);
   set_apic(TIMER, TICK);
+  if (it == processors) send(0, TO_ALL_OTHERS | INIT); /* they wait for their begin */
 }
 
 void forget_pages(void) { __asm__ volatile("movq %%cr3, %%rax; movq %%rax, %%cr3" : : : "rax", "memory"); }
@@ -132,11 +124,7 @@ void forget_pages(void) { __asm__ volatile("movq %%cr3, %%rax; movq %%rax, %%cr3
 void microsecond(void) { in(0x80); } /* about one on a PC, and less in QEMU */
 
 /* One that is not yet ready to begin does not hear it, and one that has begun does not either. */
-void call_others(int is_first) {
-  enum { WAIT = 20000 };
-  memcpy((void *)OTHERS_PAGE, others_start, others_end - others_start);
-  for (unsigned i = 1; is_first && i < processor_count; i++) send(processors[i].number, INIT);
-  for (int wait = 0; is_first && wait < WAIT; wait++) microsecond();
+void call_others(void) {
   for (unsigned i = 1; i < processor_count; i++) send(processors[i].number, BEGIN | OTHERS_PAGE / PAGE);
 }
 

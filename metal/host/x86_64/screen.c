@@ -10,13 +10,12 @@ static size dots_pitch, dot_bytes; /* from one line of dots to the next, from on
 
 /* Shows a cell anew: of dots, in 8 times 16 of them. */
 static void set_cell(unsigned at, unsigned short cell) {
-  enum { COLUMNS = 5, ACROSS = 8, DOWN = 16, WHITE = 0xFF, DIM = 0xAA };
-  volatile unsigned short *letters = (volatile unsigned short *)0xB8000;
+  enum { LETTERS = 0xB8000, COLUMNS = 5, ACROSS = 8, DOWN = 16, WHITE = 0xFF, DIM = 0xAA };
   unsigned letter = cell & 0xFF, light = (cell & 0xFF00) == BRIGHT ? WHITE : DIM;
   const char *columns = font + COLUMNS * (letter > ' ' && letter <= '~' ? letter - ' ' : 0);
   if (cells[at] == cell) return;
   cells[at] = cell;
-  if (!dots) letters[at] = cell;
+  if (!dots) ((volatile unsigned short *)LETTERS)[at] = cell;
   for (unsigned i = 0; dots && i < ACROSS * DOWN; i++) {
     unsigned x = i % ACROSS, y = i / ACROSS;
     volatile byte *dot = dots + (at / WIDE * DOWN + y) * dots_pitch + (at % WIDE * ACROSS + x) * dot_bytes;
@@ -32,24 +31,20 @@ void clear_screen(void) {
   for (unsigned i = 0; i < WIDE * HIGH; i++) set_cell(i, GREY | ' ');
 }
 
-/* There is a screen of dots. One that is too small, or that has fewer than three bytes a dot, shows nothing. */
-void has_screen(size at, unsigned pitch, unsigned wide, unsigned high, unsigned bits) {
-  if (wide < WIDE * 8 || high < HIGH * 16 || bits < 24) return;
-  dots = (byte *)at;
-  dots_pitch = pitch;
-  dot_bytes = bits / 8;
+/* There is a screen of dots: its place, of two words, its pitch, its width, its height, the bits of a dot. One above 4 GiB, one that is too small, or
+   one of fewer than three bytes a dot shows nothing. */
+void has_screen(const unsigned *it) {
+  if (it[1] || it[3] < WIDE * 8 || it[4] < HIGH * 16 || (it[5] & 0xFF) < 24) return;
+  dots = (byte *)(size)it[0];
+  dots_pitch = it[2];
+  dot_bytes = (it[5] & 0xFF) / 8;
 }
 
 /* Shows a byte behind those that it has, and the place of the next; those of standard error are bright. */
 void show(long fd, byte one) {
   static unsigned at;
   set_cell(at, one == '\n' || one == '\r' || one == '\b' ? GREY | ' ' : (fd == 2 ? BRIGHT : GREY) | one);
-  if (one == '\b')
-    at -= at > 0;
-  else if (one == '\n')
-    at += WIDE - at % WIDE;
-  else if (one != '\r')
-    at++;
+  at = one == '\b' ? at - (at > 0) : one == '\n' ? at + WIDE - at % WIDE : at + (one != '\r');
   for (; at >= WIDE * HIGH; at -= WIDE)
     for (unsigned i = 0; i < WIDE * HIGH; i++) set_cell(i, i < WIDE * (HIGH - 1) ? cells[i + WIDE] : GREY | ' ');
   set_cell(at, GREY | '_');
