@@ -3,7 +3,7 @@
 # thread, all from one on, standard output cut after every byte, standard input that fails after every byte; and with slow starts and wake-ups of threads.
 # Each outcome must be that of the run without failures, or the error that is promised for it, with exactly the output that is then allowed. If worker
 # threads race, two runs may differ: an outcome is then right if `check` prints yes for the trace, all messages got through and each CPU has its line. It
-# takes about a minute; .ci/run calls it after rt ci.
+# takes half a minute; .ci/run calls it after rt ci.
 #
 #   tests/faults.sh [PROGRAM]
 #
@@ -22,18 +22,28 @@ rustc --edition 2024 -O -C panic=abort --crate-type cdylib -o "$room/librefuse.s
 outcomes=0
 wrong=0
 
-# Runs the command in `words` on the file `input`, with $1 in the environment: leaves `status`, the files out and err, and in `refused`
-# whether anything was refused.
+# Reads the file $2 into the variable $1, in no other process. No variable holds a byte 0: then it has a text that no command prints.
+read_whole() {
+  if IFS= read -rd '' "$1" < "$2"; then printf -v "$1" 'a byte 0'; fi
+}
+# Runs the command in `words` on the file `input`, with $1 in the environment: leaves `status`, the file out and its text in `out`, all lines of standard
+# error in the file told, those of the program in `err`, and in `refused` whether anything was refused.
 run() {
   status=0
   timeout 20 env LD_PRELOAD="$room/librefuse.so" "$1" "$program" "${words[@]}" < "$input" > "$room/out" 2> "$room/told" || status=$?
   refused=no
-  if grep -q '^refused$' "$room/told"; then refused=yes; fi
-  grep -v '^refused$' "$room/told" > "$room/err"
+  read_whole out "$room/out"
+  read_whole err "$room/told"
+  err=$'\n'$err
+  while [[ "$err" = *$'\nrefused\n'* ]]; do
+    refused=yes
+    err=${err/$'\nrefused\n'/$'\n'}
+  done
+  err=${err#$'\n'}
 }
 # Whether the outcome is that of the unhindered run, or, where `races` says so, as good as it.
 is_true() {
-  [ "$status" = "$true_status" ] && cmp -s "$room/err" "$room/true_err" && { cmp -s "$room/out" "$room/true_out" || is_as_good; }
+  [ "$status" = "$true_status" ] && [ "$err" = "$true_err" ] && { [ "$out" = "$true_out" ] || is_as_good; }
 }
 is_as_good() {
   [ "$races" = yes ] && [ "$("$program" check < "$room/out")" = yes ] && [ "$(messages "$room/out")" = "$(messages "$room/true_out")" ]
@@ -44,14 +54,14 @@ messages() {
 }
 # Whether the outcome is status 1 with the line of the refusal $1, and the first $2 bytes of the true output.
 is_refusal() {
-  [ "$status" = 1 ] && [ "$(cat "$room/err")" = "error: $1" ] && head -c "$2" "$room/true_out" | cmp -s - "$room/out"
+  [ "$status" = 1 ] && [ "$err" = "error: $1"$'\n' ] && [ "$out" = "${true_out:0:$2}" ]
 }
 # Counts an outcome, which is wrong where $1 is not 0; $2 tells what was refused.
 count() {
   outcomes=$((outcomes + 1))
   if [ "$1" != 0 ]; then
     wrong=$((wrong + 1))
-    printf 'faults: %s with %s\n  status %s\n  output: %s\n  error: %s\n' "${words[*]}" "$2" "$status" "$(cat "$room/out")" "$(cat "$room/err")"
+    printf 'faults: %s with %s\n  status %s\n  output: %s\n  error: %s\n' "${words[*]}" "$2" "$status" "$out" "$err"
   fi
 }
 
@@ -78,7 +88,7 @@ threads() {
 }
 outputs() {
   local n length
-  length=$(wc -c < "$room/true_out")
+  length=${#true_out}
   for ((n = 0; n < length; n++)); do
     run "CUT_OUT=$n"
     is_refusal 'WriteFault(8)' "$n"
@@ -113,7 +123,8 @@ command() {
   [ "$status" = "$true_status" ]
   count $? "nothing refused, where status $true_status is wanted"
   cp "$room/out" "$room/true_out"
-  cp "$room/err" "$room/true_err"
+  true_out=$out
+  true_err=$err
   run SLOWLY=10
   is_true
   count $? SLOWLY=10

@@ -33,7 +33,9 @@ function's folder of proofs, of the mutant itself, and of the contracts and defi
 of a weak one ends in `weak`. docs/GATE.md says what a mutant reaches. Comments, the layout of imports, bodies of other functions, and lemmas are not in the
 sum: what a contract forbids does not depend on its proof. A mutant whose sum is there is not tried again, except with --all. Each run without --after-ci
 writes the file, so that an author who changes a crate tries its mutants once and commits the lines; lines without a mutant are removed. If two branches
-meet, git takes the lines of both, and the next run drops those that fit neither. A file with a line of another form fails, and no mutant is tried.
+meet, git takes the lines of both, and the next run drops those that fit neither. A file with a line of another form fails, and no mutant is tried. Each text
+is read by the names under which the sums were taken: tests/names.txt has a line `new old` for each name that was changed since, so that a rename changes no
+sum. If the sources still have an old name, that fails by name, and no mutant is tried.
 
 The gate does not trust a line forever. With --minutes N it tries mutants that the file has, drawn by a seed that it chooses and prints, until they took N
 minutes of processor time: half of them among lines that the last 30 commits changed. Drawn mutants are tried over holes, so that nothing that their functions
@@ -52,6 +54,7 @@ sys.dont_write_bytecode = True
 ROOT = os.path.dirname(os.path.dirname(os.path.realpath(__file__)))
 sys.path.append(f"{ROOT}/tools")
 import kit  # noqa: E402
+from rename import Ambiguous  # noqa: E402
 from bodies import ledger, own_test  # noqa: E402
 from bodies.judge import bodies_of, say  # noqa: E402
 from bodies.sums import Sums, logic, rules  # noqa: E402
@@ -167,8 +170,8 @@ def main():
         read.error(f"no crate is named {' '.join({*given.names} - {it.name for it in crates})}")
     try:
         run = Run(lib, crates, given)
-    except ledger.Unreadable as error:
-        say(f"wrong-bodies: tests/refused.txt: {error}")
+    except (ledger.Unreadable, Ambiguous) as error:
+        say(f"wrong-bodies: {'tests/names.txt' if isinstance(error, Ambiguous) else 'tests/refused.txt'}: {error}")
         print("0 passed, 1 failed")
         return 1
     rounds = run.try_open()

@@ -1,7 +1,7 @@
 #!/usr/bin/env python3
 """Runs the merge gate: `rt ci` (every proof from nothing, the must-fail edits, the program as two compilers build it); then scripts over the programs that it
-leaves, as many in parallel as there are cores; then the mutants of crates/NAME/wrong, over the libraries that it leaves. Scripts that need no such program
-run next to the last proofs of `rt ci`, which leave a core idle, and so do the mutants of all crates but the program's.
+leaves, as many in parallel as there are cores; and the mutants of crates/NAME/wrong, over the libraries that it leaves. What needs no such program runs next
+to the last proofs of `rt ci`, which leave a core idle: mutants, the library for C, and scripts that only read the tree.
 
     .ci/run           runs all, and reads no input
     .ci/run --list    prints the scripts, one a line, with 'early' before each that may run next to `rt ci`, and 'alone' before each that runs by itself
@@ -13,7 +13,6 @@ one failure, and so does a program that `rt ci` must leave and did not. If a too
 import argparse
 import contextlib
 import os
-import random
 import re
 import shutil
 import signal
@@ -26,11 +25,16 @@ import typing
 from concurrent.futures import ThreadPoolExecutor
 
 ROOT = os.path.dirname(os.path.dirname(os.path.realpath(__file__)))
-# One script a line. These only read the tree, and write to folders of their own. They run one at a time next to the last proofs of `rt ci`, the longest first.
+# One script a line. These need all libraries, but not the program: they begin while `rt ci` proves the last crate.
+OVER_LIBRARIES = """
+embed/build.py --beside-ci
+metal/console.py --prove
+"""
+# These only read the tree, and write to folders of their own. They run one at a time next to the last proofs of `rt ci`, the longest first.
 EARLY = """
+tests/layers.sh
 tests/refuse.sh
 tests/third-lock.sh
-tests/layers.sh
 tests/another-capacity.py
 tools/public-functions.py
 tools/cycles.py
@@ -75,7 +79,15 @@ embed/wrong_hosts.py
 """
 # These look at nothing where there is no browser, no QEMU or no C compiler. They end with this status then, and print why: such a one is left out, and has
 # not failed.
-MAY_LOOK_AT_NOTHING = {"web/in_browser.py", "metal/test.py", "metal/wrong_hosts.py", "metal/console.py", "embed/test.py", "embed/wrong_hosts.py"}
+MAY_LOOK_AT_NOTHING = {
+    "embed/build.py --beside-ci",
+    "web/in_browser.py",
+    "metal/test.py",
+    "metal/wrong_hosts.py",
+    "metal/console.py",
+    "embed/test.py",
+    "embed/wrong_hosts.py",
+}
 LOOKED_AT_NOTHING = 77
 # Without these some script fails. The scripts look for rustc in that folder too.
 TOOLS = ("rt", "python3", "node", "rustc")
@@ -83,16 +95,17 @@ TOOLS_ELSEWHERE = "~/.cargo/bin"
 LEAST_PYTHON = (3, 9)
 # What `rt ci` leaves, by either compiler. Scripts run over those of them that are there.
 BUILDS = ("crates/mctower/out/mctower", "crates/mctower/out/mctower.by-rattle")
-# Early steps run one at a time, once no more crates than this are left to prove: `cpu_workers` and then `mctower` take a core each. A step begins only while so
-# much memory is free. The largest check takes 6 GB, and `rt ci` may be about to begin it; a check of mutants takes up to 5 GB beside it.
+# Early steps run one at a time, once no more crates than this are left to prove: on two cores `rt ci` gives each proof one core: the task of its crate's
+# tests, which is empty here, becomes ready with it and counts for the other. So `cpu_workers` and then `mctower` leave a core idle. What needs all libraries
+# begins with the last crate. A step begins only while so much memory is free. The largest check takes 6 GB, and `rt ci` may be about to begin it; a check of
+# mutants takes up to 5 GB beside it.
 LAST_CRATES = 2
+LAST_CRATE = 1
 SCRIPT_MEMORY = 8_000_000_000
 BODIES_MEMORY = 14_000_000_000
 PROVED = re.compile(r"rt: \w+ (proved|is kept: .*)")
-# Minutes of processor time for wrong bodies that are drawn from those that were refused before. They are all of the program's crate, or none is: see `draws`.
+# Minutes of processor time for wrong bodies that are drawn from those that were refused before.
 DRAWN_MINUTES = "16"
-PROGRAM = "mctower"
-LEDGER = "tests/refused.txt"
 BODIES = "tests/wrong-bodies.py"
 SUM = re.compile(r"(\d+) passed, (\d+) failed")
 
@@ -117,7 +130,7 @@ class Gate:
         """Runs a script, and counts it where it fails."""
         began = time.monotonic()
         with tempfile.TemporaryFile() as said:
-            status, usage = ended(subprocess.Popen([name], cwd=ROOT, stdin=subprocess.DEVNULL, stdout=said, stderr=subprocess.STDOUT))
+            status, usage = ended(subprocess.Popen(name.split(), cwd=ROOT, stdin=subprocess.DEVNULL, stdout=said, stderr=subprocess.STDOUT))
             said.seek(0)
             text = said.read().decode(errors="replace")
         if status == LOOKED_AT_NOTHING and name in MAY_LOOK_AT_NOTHING:
@@ -150,19 +163,16 @@ class Gate:
         found = SUM.fullmatch(last.strip())
         passed, failed = map(int, found.groups()) if found else (0, 0)
         status = status or int(failed > 0 or not found)
-        self.passed, self.failed = self.passed + passed, self.failed + (failed or int(status != 0))
+        with self.turn:
+            self.passed, self.failed = self.passed + passed, self.failed + (failed or int(status != 0))
         self.take(name, began, status, usage, "" if found else last)
         return status == 0
 
     def run(self):
-        of_program, of_others = self.draws()
-        others = [it for it in crates() if it != PROGRAM]
-        mutants = [
-            Step(1, SCRIPT_MEMORY, lambda lanes: self.counted(f"{BODIES} --self-test", BODIES, "--self-test")),
-            Step(1, BODIES_MEMORY, lambda lanes: self.bodies("all other crates", of_others, lanes, *others)),
-        ]
-        scripts = {Step(LAST_CRATES, SCRIPT_MEMORY, lambda lanes, name=it: self.script(name)): it for it in EARLY.split()}
-        early, lanes = Early([*scripts, *mutants], len(others) + 1), len(os.sched_getaffinity(0))
+        lanes, bodies = len(os.sched_getaffinity(0)), Step(LAST_CRATE, BODIES_MEMORY, self.bodies)
+        scripts = [self.step_of(it, LAST_CRATE) for it in listed(OVER_LIBRARIES)] + [self.step_of(it, LAST_CRATES) for it in listed(EARLY)]
+        own_test = Step(LAST_CRATES, SCRIPT_MEMORY, lambda lanes: self.counted(f"{BODIES} --self-test", BODIES, "--self-test"))
+        early = Early([bodies, *scripts, own_test], count_of_crates())
         is_proved = self.counted("rt ci", "tools/gate-minutes.py", "rt", "ci", heard=early.hear)
         left = early.stop()
         if not is_proved:
@@ -170,30 +180,19 @@ class Gate:
             self.steps.append("gate: nothing more was run")
             return
         self.look_for_builds()
-        with ThreadPoolExecutor(max(1, lanes - early.is_working())) as pool:
-            list(pool.map(self.script, [*(scripts[it] for it in left if it in scripts), *BESIDE.split()]))
-        early.wait()
-        for it in ALONE.split():
+        side_by_side([*(it for it in left if it != bodies), *map(self.step_of, listed(BESIDE))], lanes, early)
+        for it in listed(ALONE):
             self.script(it)
-        for it in left:
-            if it in mutants:
-                it.run(lanes)
-        self.bodies(PROGRAM, of_program, lanes, PROGRAM)
+        if bodies in left:
+            bodies.run(lanes)
 
-    def draws(self):
-        """Draws whether mutants of the program's crate are tried again, or mutants of the others, by how many lines each has in the ledger. Returns the minutes
-        for each."""
-        with contextlib.suppress(OSError), open(f"{ROOT}/{LEDGER}", encoding="utf-8") as lines:
-            names = [it.partition("/")[0] for it in lines]
-            if names and random.SystemRandom().choice(names) == PROGRAM:
-                return DRAWN_MINUTES, "0"
-        return "0", DRAWN_MINUTES
+    def step_of(self, name, crates=0):
+        return Step(crates, SCRIPT_MEMORY, lambda lanes: self.script(name))
 
-    def bodies(self, told, minutes, lanes, *names):
-        """Tries the mutants of these crates that have no line in the ledger, and draws others for so many minutes of processor time, in at most so many checks
-        side by side."""
+    def bodies(self, lanes):
+        """Tries the mutants that have no line in the ledger, and draws others for some minutes of processor time, in at most so many checks side by side."""
         few = ("--jobs", "1") if lanes == 1 else ()
-        self.counted(f"{BODIES} of {told}", "tools/gate-minutes.py", BODIES, "--after-ci", "--minutes", minutes, *few, *names)
+        self.counted(BODIES, "tools/gate-minutes.py", BODIES, "--after-ci", "--minutes", DRAWN_MINUTES, *few)
 
     def sum_up(self):
         """Prints what each step took, which looked at nothing, which failed, and the sum; returns whether the gate is passed."""
@@ -205,14 +204,29 @@ class Gate:
 
 
 class Step(typing.NamedTuple):
-    """A step that may run beside `rt ci`: how many crates may be left to prove when it begins, the memory that it needs, and what runs it in so many lanes."""
+    """A step: how many crates may be left to prove when it begins next to `rt ci`, the memory that it needs, and what runs it in so many lanes."""
     crates: int
     memory: int
     run: typing.Callable
 
 
+def side_by_side(steps, lanes, early):
+    """Runs steps in so many lanes. The first lane begins once the early step that is under way has ended."""
+    left = iter(steps)
+
+    def work(lane):
+        if lane == 0:
+            early.wait()
+        for step in left:
+            step.run(1)
+
+    with ThreadPoolExecutor(lanes) as pool:
+        list(pool.map(work, range(lanes)))
+
+
 class Early:
-    """Steps that need nothing of the crates that are still under proof: a thread runs them one at a time, from when few crates are left until `rt ci` ends."""
+    """Steps that need nothing of the crates that are still under proof: a thread runs them one at a time, from when few crates are left until `rt ci` ends. It
+    takes the first that may begin."""
 
     def __init__(self, steps, crates):
         self.left, self.crates, self.is_over, self.turn = list(steps), crates, False, threading.Lock()
@@ -227,15 +241,14 @@ class Early:
     def work(self):
         while not self.is_over and self.left:
             with self.turn:
-                may_begin = not self.is_over and self.crates <= self.left[0].crates and free_memory() >= self.left[0].memory
-                step = self.left.pop(0) if may_begin else None
+                free = 0 if self.is_over else free_memory()
+                step = next((it for it in self.left if self.crates <= it.crates and it.memory <= free), None)
+                if step:
+                    self.left.remove(step)
             if step:
                 step.run(1)
             else:
                 time.sleep(1)
-
-    def is_working(self):
-        return self.worker.is_alive()
 
     def stop(self):
         """Begins no more steps, and returns those that did not begin. The last one may be under way."""
@@ -248,10 +261,15 @@ class Early:
             self.worker.join()
 
 
-def crates():
-    """Returns the names of the tree's crates."""
+def count_of_crates():
+    """Returns how many crates the tree has."""
     with open(f"{ROOT}/crates.txt", encoding="utf-8") as lines:
-        return [it.partition(":")[0] for it in lines if not it.startswith("#")]
+        return sum(not it.startswith("#") for it in lines)
+
+
+def listed(names):
+    """Returns the scripts of a list, with their words."""
+    return [it for it in names.split("\n") if it]
 
 
 def free_memory():
@@ -288,7 +306,7 @@ def main():
     read = argparse.ArgumentParser(description=__doc__, formatter_class=argparse.RawDescriptionHelpFormatter)
     read.add_argument("--list", action="store_true")
     if read.parse_args().list:
-        print(*(f"early {it}" for it in EARLY.split()), *BESIDE.split(), *(f"alone {it}" for it in ALONE.split()), sep="\n")
+        print(*(f"early {it}" for it in listed(OVER_LIBRARIES + EARLY)), *listed(BESIDE), *(f"alone {it}" for it in listed(ALONE)), sep="\n")
         return 0
     if missing := missing_tools():
         print(f"gate: nothing was run: there is no {' and no '.join(missing)} here", f"gate: failed: {', '.join(missing)}", sep="\n")

@@ -6,9 +6,9 @@ the names of its types and traits.
 
 A line of the table is `old new`, and # starts a comment. `old` is a whole name, or with a ~ before it one word of names: `~berth` is in `own_berth` but
 not in `berths`, and `~Berth` in `IsBerth`. A whole name has priority over a word, and nothing is renamed twice. In comments and docs a name is renamed
-only if it cannot be prose: with `_` or a second capital in it, or between backticks; in docs only if crates/ has it. A string is what the program prints: only what stands there between
-braces is a name. The prover's own set of search rules is named `rules`: that name stays. Paths after `new` limit the line to files whose paths begin with
-one of them (`doing under_way crates/cpu/ crates/mctower/src/main.rt`); such a line has priority over one for all files.
+only if it cannot be prose: with `_` or a second capital in it, or between backticks; in docs only if crates/ has it. A string is what the program prints:
+only what stands there between braces is a name. The prover's own set of search rules is named `rules`: that name stays. Paths after `new` limit the line
+to files whose paths begin with one of them (`doing under_way crates/cpu/ crates/mctower/src/main.rt`); such a line has priority over one for all files.
 
 Without --apply it changes nothing. It prints each new name that exists already, because two names would become one, and each line of prose that still has
 an old word. With --apply it also writes into tests/names.txt what it renamed in crates/: a rename changes no verdict, so that the ledger of mutants reads
@@ -28,7 +28,8 @@ CODE = (".rt", ".antt", ".edit")
 DOCS, SCRIPTS = (".md",), (".sh", ".py", ".toml", ".sums")
 # Sources with other endings: templates of a crate, tests of layers, and lists of functions.
 TEMPLATES, TESTS, LISTS = (".rt.in", ".antt.in"), "tests/layers/src/", ("tests/no-wrong-body.txt",)
-OWN = "tools/rename.py"
+# Where edits are of sources of crates/; others are of hosts or of a crate of their own.
+EDITS, OWN = ("crates/", "tests/"), "tools/rename.py"
 NAME = re.compile(r"[A-Za-z][A-Za-z0-9_]*")
 WORDS = re.compile(r"_+|[A-Z]+(?![a-z])|[A-Z][a-z0-9]*|[a-z0-9]+|.")
 COMMENT = {".rt": r"//[^\n]*|/\*.*?\*/", ".antt": r"(?<!\S)-- [^\n]*"}
@@ -41,6 +42,8 @@ OTHERS = {
     ".rt": re.compile(f"(?P<comment>{COMMENT['.rt']})|(?P<string>{STRING})|(?P<kit>{OF_KIT})", re.S),
     ".antt": re.compile(rf'(?P<comment>{COMMENT[".antt"]})|(?P<string>"(?:\\.|[^"\\\n])*")|(?P<kit>{OF_KIT})'),
 }
+# The words of a command stay, and so does a page that is about words.
+COMMAND, OF_WORDS = re.compile(r"`[\w./-]+\.(?:rs|py|sh) "), ("docs/STYLE.md",)
 # A name of code in prose: one in a path.
 IN_PATH = re.compile(r"(?<=::)[A-Za-z]\w*|\b[A-Za-z]\w*(?=::)")
 
@@ -103,7 +106,7 @@ class Names:
 
     def in_prose(self, text):
         parts = re.split(r"(`[^`]*`)", text)
-        return "".join(self.in_code(it) if at % 2 else self.in_words(it) for at, it in enumerate(parts))
+        return "".join(it if COMMAND.match(it) else self.in_code(it) if at % 2 else self.in_words(it) for at, it in enumerate(parts))
 
     def in_words(self, text):
         text = IN_PATH.sub(lambda it: self.of(it[0]), text)
@@ -132,6 +135,8 @@ def kind_of(path):
     if path.startswith(TESTS) and path.endswith(".rs"):
         return ".rt"
     ending = os.path.splitext(path)[1]
+    if ending == ".edit" and not path.startswith(EDITS) or path in OF_WORDS:
+        return None
     return ending if ending in (*CODE, *DOCS) else ".md" if path in LISTS else ".py" if ending in SCRIPTS and path != OWN else None
 
 
@@ -192,6 +197,52 @@ def new_path(names, path):
         return f"{names.of(name)}.{rest}" if point else names.in_code(part)
 
     return "/".join([*parts[:2], *map(new, parts[2:])])
+
+
+class Ambiguous(Exception):
+    """A name in a text that tests/names.txt does not take back in one way."""
+
+
+class Taken:
+    """The names under which the sums were taken: tests/names.txt has for each name of today the one that it replaced. Each text and each path is read by those,
+    so that a rename changes no sum. This is exact as long as renaming the text that was read gives the text again: no two texts are then read alike."""
+
+    def __init__(self, text):
+        try:
+            self.back = Table(text, Back)
+        except Unfit as error:
+            raise Ambiguous(error) from error
+        self.forth = self.back.turned()
+        for lines in (self.back.lines, self.forth.lines):
+            seen = set()
+            for one, _, within in lines:
+                if (one, within) in seen:
+                    raise Ambiguous(f"two lines for {one}")
+                seen.add((one, within))
+        self.limited = [(new, within) for new, _, within in self.back.lines if within]
+
+    def path(self, path):
+        return new_path(self.back.at(path), path)
+
+    def text(self, path, text):
+        """Returns the text of a file by the names under which the sums were taken."""
+        if not self.back.lines:
+            return text
+        found = renamed_file(self.back, path, text)
+        again = renamed_file(self.forth, path, found)
+        if again != text:
+            pair = next(it for it in zip(NAME.findall(text), NAME.findall(again)) if it[0] != it[1])
+            raise Ambiguous(f"{path}: {pair[0]} is an old name, today's is {pair[1]}")
+        if self.limited and kind_of(path) in OTHERS:
+            here = self.back.at(path).whole
+            names = {new for new, within in self.limited if not path.startswith(within) and new not in here}
+            for it in sorted(names.intersection(NAME.findall(OTHERS[kind_of(path)].sub(" ", text)))):
+                raise Ambiguous(f"{path}: {it} is the name of another file's")
+        return found
+
+    def piece(self, path, text):
+        """Returns a piece of a file's text by those names."""
+        return renamed(self.back.at(path), text, ".rt")
 
 
 def taken(table, into, known):

@@ -5,6 +5,8 @@ import re
 import shutil
 import tempfile
 
+from rename import ROOT, TAKEN, Ambiguous, Taken
+
 from . import ledger
 from .judge import bodies_of, say
 from .reach_test import wrong_sums
@@ -59,6 +61,8 @@ SUMS = {
     "a definition that is added below": ("event_log/specs/Runs.antt", "", "\nabbrev pub new_one : ℕ → ℕ\nnew_one n = n\n", ""),
     "an impl for an added type": ("event_log/src/ids.rt", "", "\npub struct New;\n\nimpl Drop for New {\n    fn drop(self) {}\n}\n", ""),
 }
+# A rename in the copy: of all its sources a word, and the new one.
+OLD, NEW = "empty_queues", "queues_at_boot"
 SUM = "0123456789abcde"
 
 
@@ -79,9 +83,9 @@ def sums_are_right(lib, root, room):
     shutil.copy(f"{root}/crates.txt", room)
     shutil.copytree(f"{root}/crates", f"{room}/crates", ignore=shutil.ignore_patterns("out"))
 
-    def sums(under="a logic and its rules"):
+    def sums(under="a logic and its rules", names=None):
         crate = next(it for it in lib.crates_below(room) if it.name == "shared_queue")
-        told = Sums(lib, under, [crate]).of(crate, bodies_of(crate, f"{crate.folder}/wrong"))
+        told = Sums(lib, under, [crate], names).of(crate, bodies_of(crate, f"{crate.folder}/wrong"))
         return {name: told[f"shared_queue/{name}.edit"] for name in BOTH.split()}
 
     before = sums()
@@ -97,6 +101,30 @@ def sums_are_right(lib, root, room):
             it.write(text)
     if {*before.values()} & {*sums("another rule").values()}:
         yield "the sums under other rules"
+    yield from names_are_right(room, lambda line: sums(names=Taken(f"{open(f'{ROOT}/{TAKEN}', encoding='utf-8').read()}{line}")), before)
+
+
+def names_are_right(room, sums, before):
+    """Yields what does not hold of the sums by tests/names.txt and a further line, after a rename in this folder: the line keeps them, without it they change,
+    and an old name that is left, or a line that takes two names to one, fails."""
+    for folder, _, names in [*os.walk(f"{room}/crates", topdown=False)]:
+        for path in (f"{folder}/{it}" for it in names if it.endswith((".rt", ".antt", ".edit"))):
+            text = open(path, encoding="utf-8").read()
+            with open(path, "w", encoding="utf-8") as it:
+                it.write(re.sub(rf"\b{OLD}\b", NEW, text))
+        if os.path.basename(folder) == OLD:
+            os.rename(folder, f"{os.path.dirname(folder)}/{NEW}")
+    if sums(f"{NEW} {OLD}\n") != before:
+        yield "the sums after a rename that tests/names.txt has"
+    if sums("")["queue_blocks_leaves_out_a_queue"] == before["queue_blocks_leaves_out_a_queue"]:
+        yield "the sums after a rename that tests/names.txt has not"
+    for line, why in ((f"queue_blocks {NEW}\n", f"{NEW} is an old name"), (f"{NEW} {OLD}\nother {OLD}\n", f"two lines for {OLD}")):
+        try:
+            sums(line)
+            yield f"the line {line.strip()} of tests/names.txt, which takes two names to one"
+        except Ambiguous as error:
+            if why not in str(error):
+                yield f"the reason why tests/names.txt is ambiguous: {error}"
 
 
 def ledger_is_right(room):

@@ -7,7 +7,7 @@ import subprocess
 import sys
 
 import imports
-import rename
+from rename import ROOT, TAKEN, Taken
 
 from .items import Item, RustFile, Unread, code_in_one_line, items_of, without_comments, words_of
 from .reach import Reach
@@ -61,58 +61,9 @@ def read(path):
         return it.read()
 
 
-class Ambiguous(Exception):
-    """A name in a text that tests/names.txt does not take back in one way."""
-
-
-class Taken:
-    """The names under which the sums were taken: tests/names.txt has for each name of today the one that it replaced. Each text and each path is read by those,
-    so that a rename changes no sum. This is exact as long as renaming the text that was read gives the text again: no two texts are then read alike."""
-
-    def __init__(self, text):
-        try:
-            self.back = rename.Table(text, rename.Back)
-        except rename.Unfit as error:
-            raise Ambiguous(error) from error
-        self.forth = self.back.turned()
-        for lines in (self.back.lines, self.forth.lines):
-            seen = set()
-            for one, _, within in lines:
-                if (one, within) in seen:
-                    raise Ambiguous(f"two lines for {one}")
-                seen.add((one, within))
-        self.limited = [(new, within) for new, _, within in self.back.lines if within]
-
-    def path(self, path):
-        return rename.new_path(self.back.at(path), path)
-
-    def text(self, path, text):
-        """Returns the text of a file by the names under which the sums were taken."""
-        if not self.back.lines:
-            return text
-        found = rename.renamed_file(self.back, path, text)
-        again = rename.renamed_file(self.forth, path, found)
-        if again != text:
-            pair = next(it for it in zip(rename.NAME.findall(text), rename.NAME.findall(again)) if it[0] != it[1])
-            raise Ambiguous(f"{path}: {pair[0]} is an old name, today's is {pair[1]}")
-        if self.limited and not path.endswith(".edit"):
-            here = self.back.at(path).whole
-            names = {new for new, within in self.limited if not path.startswith(within) and new not in here}
-            for it in sorted(names.intersection(rename.NAME.findall(text))):
-                raise Ambiguous(f"{path}: {it} is the name of another file's")
-        return found
-
-    def piece(self, path, text):
-        """Returns a piece of a file's text by those names."""
-        return rename.renamed(self.back.at(path), text, ".rt")
-
-
-TAKEN = f"{os.path.dirname(os.path.dirname(os.path.realpath(__file__)))}/names.txt"
-
-
-def taken(path=TAKEN):
-    """Returns the names under which the sums were taken; today's where there is no such file."""
-    return Taken(read(path) if os.path.isfile(path) else "")
+def taken(root):
+    """Returns the names of a tree under which its sums were taken; today's where it has no such file."""
+    return Taken(read(f"{root}/{TAKEN}") if os.path.isfile(f"{root}/{TAKEN}") else "")
 
 
 class Sums:
@@ -120,7 +71,7 @@ class Sums:
 
     def __init__(self, lib, under, crates, names=None):
         self.lib, self.under, self.wholes, self.proofs = lib, under, {}, {}
-        self.names = names or taken()
+        self.names = names or taken(ROOT)
         known = {it.name: it for crate in crates for it in [crate, *crate.below()]}
         self.below = {name: [name, *(dep.name for dep in it.below())] for name, it in known.items()}
         self.reach = Reach([item for name in sorted(known) for item in self.items_of(known[name])], self.below)
