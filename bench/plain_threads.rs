@@ -145,9 +145,9 @@ struct Worker<'a, const GRANT: bool> {
     section: Section,
     trace: Vec<Entry>,
     guests: Vec<Option<Guest>>,
-    /// How often the bell was rung before the newest poll of the pending queue, and how many polls in a row were in vain.
+    /// How often the bell was rung before the newest poll of the pending queue, and how many waits have passed since checks of it last succeeded.
     rung: u64,
-    polls: u16,
+    waits: u16,
 }
 
 impl<const GRANT: bool> Worker<'_, GRANT> {
@@ -316,25 +316,28 @@ impl<const GRANT: bool> Worker<'_, GRANT> {
         }
     }
 
-    /// Before a poll of the pending queue of an idle CPU: after some polls in vain it waits for the bell.
-    fn before_poll(&mut self) {
+    /// Whether the bell was rung since the newest poll of the pending queue began. In some waits it is checked for a while.
+    fn is_rung_soon(&mut self) -> bool {
         let bell = &self.shared.bells[self.c];
-        if self.polls.is_power_of_two() && bell.rings() == self.rung {
+        if bell.rings() != self.rung {
+            return true;
+        }
+        self.waits = self.waits % 4_096 + 1;
+        if self.waits.is_power_of_two() {
             for _ in 0..CHECKS {
                 (0..LOOPS).for_each(|_| hint::spin_loop());
                 if bell.rings() != self.rung {
-                    self.polls = 0;
-                    break;
+                    self.waits = 0;
+                    return true;
                 }
             }
         }
-        self.rung = bell.rings();
+        false
     }
 
-    /// After a turn that left the CPU idle: it parks unless it waits before the next poll.
+    /// After a turn that left the CPU idle: it parks unless its bell is rung soon.
     fn after_idle(&mut self) {
-        self.polls = self.polls % 4_096 + 1;
-        if self.live > 0 && !self.polls.is_power_of_two() {
+        if !self.is_rung_soon() && self.live > 0 {
             self.shared.bells[self.c].park(self.rung);
         }
     }
@@ -349,7 +352,7 @@ impl<const GRANT: bool> Worker<'_, GRANT> {
                     return stop;
                 }
                 if self.is_idle() {
-                    self.before_poll();
+                    self.rung = self.shared.bells[self.c].rings();
                 }
             }
             self.step();
@@ -384,7 +387,7 @@ fn worker_of<'a, const GRANT: bool>(plan: &Plan, shared: &'a Shared, c: usize, i
     let ready: VecDeque<usize> = (0..guests.len()).filter(|&t| guests[t].is_some()).collect();
     let (live, section, trace) = (ready.len(), Section::None, Vec::with_capacity(plan.limit));
     let asks = vec![Asks::new(); plan.capacities.len()];
-    Worker { shared, c, limit: plan.limit, current: None, hand: None, ready, live, begun: 0, is_mannered, asks, section, trace, guests, rung: 0, polls: 0 }
+    Worker { shared, c, limit: plan.limit, current: None, hand: None, ready, live, begun: 0, is_mannered, asks, section, trace, guests, rung: 0, waits: 0 }
 }
 
 fn run<const GRANT: bool>(plan: &Plan, is_mannered: bool) -> std::io::Result<()> {

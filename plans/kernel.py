@@ -82,7 +82,7 @@ class Buffer:
 
     def copy(self):
         """A copy that an edit of this one does not change."""
-        twin = Buffer(self.capacity)
+        twin = type(self)(self.capacity)
         twin.owner, twin.items, twin.effects = self.owner, deque(self.items), self.effects
         twin.sleepers, twin.waiting, twin.line = deque(self.sleepers), tuple(map(deque, self.waiting)), tuple(map(deque, self.line))
         twin.positions, twin.closed, twin.closes = list(self.positions), self.closed, self.closes

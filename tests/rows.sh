@@ -1,5 +1,5 @@
 #!/usr/bin/env bash
-# Tests the program without proofs: builds it with `rt try --cases`, and runs each plan and each row over both locks, and each row of the tables of traces,
+# Tests the program without proofs: builds it as `rt try --cases` does, and runs each plan and each row over both locks, and each row of the tables of traces,
 # plans and programs. It takes about five minutes. It is no gate: nothing is proved, and no mutant is tried.
 #
 #   tests/rows.sh [SHARES]
@@ -17,7 +17,7 @@ echo "rows: builds mctower without proofs and runs all plans and rows, in $share
 room=$(mktemp -d); trap 'rm -rf "$room"' EXIT
 python3 tests/row_cases.py lay "$room" "$shares" || exit 1
 for share in $(seq 0 $((shares - 1))); do
-  (cd crates/mctower && exec rt try mctower --cases "$room/$share") > "$room/$share.out" 2> "$room/$share.err" &
+  (cd crates/mctower && exec ../../tools/unproved.py mctower --cases "$room/$share") > "$room/$share.out" 2> "$room/$share.err" &
 done
 wait
 for share in $(seq 0 $((shares - 1))); do

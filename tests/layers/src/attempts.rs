@@ -64,7 +64,7 @@ fn acts(kind: Kind, word: u64, op: u64, pos: u64, woke: Option<u8>) -> Told {
 
 /// The message in the buffer, and whether it is closed.
 fn state(buffer: &PlainBuffer) -> (Option<Msg>, bool) {
-    (buffer.items().first().copied(), buffer.is_closed())
+    (buffer.items().items().first().copied(), buffer.is_closed())
 }
 
 #[test]

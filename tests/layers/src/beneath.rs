@@ -5,7 +5,7 @@ use crate::texts::{gathered, written};
 use arrayvec::ArrayVec;
 use boot::{Boot, LockKind};
 use event_log::*;
-use guest::{Instruction, Target, Program, Register, Source, Thread};
+use guest::{Instruction, Program, Register, Source, Target, Thread};
 use std::alloc::Global;
 use std::io::{self, Write};
 use std::marker::Brand;
@@ -47,6 +47,9 @@ fn each_law_of_systems_can_be_called(_rt: HostRuntime) {
     cpu::stand_in_one_place();
     cpu::systems_keep_order();
     cpu::systems_lose_no_wake_up();
+    cpu::systems_serve_in_order();
+    cpu::table_has_one_order();
+    cpu::table_keeps_real_time();
     cpu::cpus_lose_no_wake_up();
     cpu::linear_runs_keep_real_time();
     cpu::work_is_a_run();

@@ -1,10 +1,9 @@
 //! Message calls over the tower's layer of buffers on ticket locks: what each takes, poll by poll.
 
 use crate::seats::{CAPS, HOMES, Seat, Seen, T0, effect, passes, polls, seat, send};
-use arrayvec::ArrayVec;
-use event_log::{BufId, CAPACITY, CpuId, Kind, Msg, NoMemory};
+use event_log::{BufId, CpuId, Kind, Msg, NoMemory, Tid};
 use ipc_calls::{OpensBuffers, TowerEdit, TowerOver};
-use layer_traits::{Call, CallLayer, OwnedBuffers, Pass, WaitList};
+use layer_traits::{BufferView, Call, CallLayer, OwnedBuffers, Pass, WaitList};
 use plain_machine::Plain;
 use spinlock::Ticket;
 use std::alloc::Global;
@@ -30,13 +29,34 @@ fn opened(
 }
 
 /// The messages of a buffer, of which there is at most one.
-fn message(items: Option<ArrayVec<Msg, CAPACITY>>) -> Option<Option<Msg>> {
-    Some(items?.first().copied())
+fn message(view: Option<BufferView<'_>>) -> Option<Option<Msg>> {
+    Some(view?.items.items().first().copied())
+}
+
+/// The owner that a view tells, whether the buffer is closed, and whether thread 0 does not wait.
+fn told(view: Option<BufferView<'_>>) -> Option<(Option<Tid>, bool, bool)> {
+    let view = view?;
+    Some((view.owner, view.closed, view.wait_list(T0).is_none()))
 }
 
 /// What the machine tells that the buffer holds.
 fn holds(m: &Plain<TowerEdit>) -> Option<Option<Msg>> {
-    message(Buffers::items_in(m, B))
+    message(Buffers::buffer_in(m, B))
+}
+
+/// Whether the machine tells that the buffer is closed.
+fn closed(m: &Plain<TowerEdit>) -> Option<bool> {
+    Some(Buffers::buffer_in(m, B)?.closed)
+}
+
+/// The owner that the machine tells.
+fn owner(m: &Plain<TowerEdit>) -> Option<Option<Tid>> {
+    Some(Buffers::buffer_in(m, B)?.owner)
+}
+
+/// The waiting list that has thread 0, as the machine tells it.
+fn wait_list(m: &Plain<TowerEdit>) -> Option<WaitList> {
+    Buffers::buffer_in(m, B)?.wait_list(T0)
 }
 
 /// Thread 0 becomes ready at home, and runs.
@@ -71,13 +91,13 @@ fn a_thread_alone_closes(rt: HostRuntime) -> Result<(), Fail> {
     let (mut m, mut home, _away) = opened(&rt)?;
     let seven = Msg::one(7);
     assert_eq!(rt; polls(&mut home, &mut m, &send(B, 7), 18), Seen::Sent);
-    assert_eq!(rt; Buffers::closed_in(&m, B), Some(false));
+    assert_eq!(rt; closed(&m), Some(false));
     assert_eq!(rt; polls(&mut home, &mut m, &Call::Close(B), 5), Seen::GoesOn);
     assert_eq!(rt; effect(&home), None);
     assert_eq!(rt; polls(&mut home, &mut m, &Call::Close(B), 1), Seen::GoesOn);
     assert_eq!(rt; effect(&home), Some((Kind::Close, Msg::one(0), 1, 0)));
     assert_eq!(rt; polls(&mut home, &mut m, &Call::Close(B), 9), Seen::Shut);
-    assert_eq!(rt; Buffers::closed_in(&m, B), Some(true));
+    assert_eq!(rt; closed(&m), Some(true));
     assert_eq!(rt; polls(&mut home, &mut m, &send(B, 8), 18), Seen::Closed);
     assert_eq!(rt; holds(&m), Some(Some(seven)));
     assert_eq!(rt;
@@ -95,7 +115,7 @@ fn a_receiver_waits_for_a_message(rt: HostRuntime) -> Result<(), Fail> {
     let (mut m, mut home, mut away) = opened(&rt)?;
     let words = Msg::new(&[5, 6]);
     assert_eq!(rt; polls(&mut home, &mut m, &Call::Recv(B), 12), Seen::Waits);
-    assert!(rt; matches!(Buffers::wait_list_in(&m, B, T0), Some(WaitList::Receivers)));
+    assert!(rt; matches!(wait_list(&m), Some(WaitList::Receivers)));
     assert_eq!(rt; holds(&m), Some(None));
     assert_eq!(rt;
         polls(&mut away, &mut m, &Call::Send(B, words), 21),
@@ -118,7 +138,7 @@ fn a_sender_waits_for_room(rt: HostRuntime) -> Result<(), Fail> {
     assert_eq!(rt; polls(&mut home, &mut m, &send(B, 1), 18), Seen::Sent);
     assert_eq!(rt; polls(&mut home, &mut m, &send(B, 2), 12), Seen::Waits);
     assert_eq!(rt; holds(&m), Some(Some(first)));
-    assert!(rt; matches!(Buffers::wait_list_in(&m, B, T0), Some(WaitList::Senders)));
+    assert!(rt; matches!(wait_list(&m), Some(WaitList::Senders)));
     assert_eq!(rt;
         polls(&mut away, &mut m, &Call::Recv(B), 21),
         Seen::Got(first)
@@ -134,11 +154,11 @@ fn a_sender_waits_for_room(rt: HostRuntime) -> Result<(), Fail> {
 fn a_receiver_learns_of_a_close(rt: HostRuntime) -> Result<(), Fail> {
     let (mut m, mut home, mut away) = opened(&rt)?;
     assert_eq!(rt; polls(&mut home, &mut m, &Call::Recv(B), 12), Seen::Waits);
-    assert_eq!(rt; Buffers::closed_in(&m, B), Some(false));
+    assert_eq!(rt; closed(&m), Some(false));
     assert_eq!(rt; polls(&mut away, &mut m, &Call::Close(B), 18), Seen::Shut);
     runs_again(&rt, &mut home, &mut m);
     assert_eq!(rt; polls(&mut home, &mut m, &Call::Recv(B), 15), Seen::Closed);
-    assert_eq!(rt; Buffers::closed_in(&m, B), Some(true));
+    assert_eq!(rt; closed(&m), Some(true));
     Ok(())
 }
 
@@ -150,19 +170,12 @@ fn a_block_in_hand_is_told_by_its_part(rt: HostRuntime) -> Result<(), Fail> {
     assert!(rt; home.part.is_busy());
     assert!(rt; home.part.look(&mut m));
     assert_eq!(rt; holds(&m), None);
-    assert_eq!(rt;
-        (Buffers::owner_in(&m, B), Buffers::closed_in(&m, B)),
-        (None, None)
-    );
-    assert_eq!(rt; message(home.part.items_here(B)), Some(None));
-    assert_eq!(rt;
-        (home.part.owner_here(B), home.part.closed_here(B)),
-        (Some(None), Some(false))
-    );
-    assert!(rt; home.part.wait_list_here(B, T0).is_none());
+    assert_eq!(rt; (owner(&m), closed(&m)), (None, None));
+    assert_eq!(rt; message(home.part.buffer_here(B)), Some(None));
+    assert_eq!(rt; told(home.part.buffer_here(B)), Some((None, false, true)));
     assert_eq!(rt; home.part.pends_here(CpuId(1), T0), None);
     assert_eq!(rt; polls(&mut home, &mut m, &Call::Recv(B), 1), Seen::GoesOn);
-    assert_eq!(rt; Buffers::owner_in(&m, B), Some(Some(T0)));
+    assert_eq!(rt; owner(&m), Some(Some(T0)));
     assert_eq!(rt; Buffers::pends_in(&m, CpuId(1), T0), Some(false));
     assert!(rt; !home.part.own_threads().is_ready(T0));
     Ok(())

@@ -5,10 +5,10 @@ use crate::openings::{Opens, TICKET_POLLS, TicketSched};
 use condvar::Cond;
 use event_log::{BufId, CpuId, NoMemory, Tid};
 use layer_traits::{
-    BufferCall, CvEdit, CvLaw, CvLeave, CvReply, Guarded, Outcome, OwnedThreadLayer, MessageSlot, Pass,
-    Payload, QLockCall, QLockLaw, QLockReply, Side, SleeperLaw, ThreadLayer, WaitList,
+    BufferCall, CvEdit, CvLaw, CvLeave, CvReply, Guarded, MessageSlot, Outcome, OwnedThreadLayer,
+    Pass, Payload, QLockCall, QLockLaw, QLockReply, Side, SleeperLaw, ThreadLayer,
 };
-use plain_layers::{PlainKernel, PlainQEdit, PlainQLock, PlainSched, plain_locks};
+use plain_layers::{PlainKernel, PlainQLock, PlainQLockCall, PlainSched, plain_locks};
 use queuing_lock::{QLock, QLockSection, lock_blocks};
 use sleep_wakeup::{SleepEdit, Sleeper, sleep_blocks};
 use std::alloc::Global;
@@ -121,6 +121,26 @@ impl Locking for QLockLaw<CvEdit<Reads>> {}
 
 impl Locking for CvLaw<Reads> {}
 
+/// The owner of the lock, as the machine tells it.
+fn owner<L: Locking, Q: OwnedThreadLayer<L>>(m: &Q::Machine) -> Option<Option<Tid>> {
+    Some(Q::block_in(m, B)?.owner)
+}
+
+/// What the lock guards, as the machine tells it.
+fn above<L: Locking, Q: OwnedThreadLayer<L>>(m: &Q::Machine) -> Option<Tid> {
+    Some(*Q::block_in(m, B)?.above)
+}
+
+/// Whether the machine tells that `t` sleeps for the lock.
+fn sleeps<L: Locking, Q: OwnedThreadLayer<L>>(m: &Q::Machine, t: Tid) -> Option<bool> {
+    Some(Q::block_in(m, B)?.sleepers.contains(t))
+}
+
+/// Whether the machine tells that `t` waits to receive.
+fn waits<L: Locking, Q: OwnedThreadLayer<L>>(m: &Q::Machine, t: Tid) -> Option<bool> {
+    Some(Q::block_in(m, B)?.receivers.contains(t))
+}
+
 fn call_of(does: Does, t: Tid) -> Call {
     match does {
         Does::Acquires => QLockCall::Acquire(t),
@@ -201,7 +221,7 @@ fn machine<S: Opens<SleepEdit<Calls>>>(alloc: Global) -> Result<S::Machine, NoMe
 /// The same of one-step queuing locks.
 fn plain_machine(
     alloc: Global,
-) -> Result<PlainKernel<PlainQEdit<CvEdit<Reads>, CvLeave>>, NoMemory> {
+) -> Result<PlainKernel<PlainQLockCall<CvEdit<Reads>, CvLeave>>, NoMemory> {
     let locks = plain_locks(alloc, vec![in alloc; T0]?)?;
     PlainKernel::open(alloc, locks, 3, &HOMES, 60)
 }
@@ -235,10 +255,10 @@ fn is_handed_on<L: Locking, Q: OwnedThreadLayer<L> + Drop>(
     let mut two: Seat<Q> = seat(rt, m, 2, polls);
     assert_eq!(rt; section(&mut zero, m, Does::Acquires), Seen::Acquired);
     assert_eq!(rt; section(&mut one, m, Does::Acquires), Seen::Sleeps);
-    assert!(rt; matches!(Q::wait_list_in(m, B, T1), Some(WaitList::Sleepers)));
+    assert_eq!(rt; sleeps::<_, Q>(m, T1), Some(true));
     assert_eq!(rt; section(&mut zero, m, Does::Leaves), Seen::GoesOn);
     assert_eq!(rt; zero.part.hand(), Some(T1));
-    assert_eq!(rt; Q::owner_in(m, B), Some(Some(T1)));
+    assert_eq!(rt; owner::<_, Q>(m), Some(Some(T1)));
     assert_eq!(rt; section(&mut zero, m, Does::Leaves), Seen::Left(Some(T1)));
     assert_eq!(rt; zero.part.hand(), None);
     assert_eq!(rt; section(&mut two, m, Does::Acquires), Seen::Sleeps);
@@ -248,7 +268,7 @@ fn is_handed_on<L: Locking, Q: OwnedThreadLayer<L> + Drop>(
     assert!(rt; passes(&mut one, m, Pass::Switch));
     assert_eq!(rt; (one.part.current(), one.part.at_once()), (Some(T1), true));
     assert_eq!(rt; polled(&mut one, m, Does::Acquires), Seen::Acquired);
-    assert_eq!(rt; Q::owner_in(m, B), Some(Some(T1)));
+    assert_eq!(rt; owner::<_, Q>(m), Some(Some(T1)));
 }
 
 /// Thread 0 waits, by which the lock has no owner, and is woken by thread 1: it comes into CPU 1's hand and is then sent home. Its wait is over
@@ -262,12 +282,12 @@ fn is_woken<C: OwnedThreadLayer<CvLaw<Reads>> + Drop>(
     let mut one: Seat<C> = seat(rt, m, 1, polls);
     assert_eq!(rt; section(&mut zero, m, Does::Acquires), Seen::Acquired);
     assert_eq!(rt; section(&mut zero, m, Does::Waits), Seen::Sleeps);
-    assert!(rt; matches!(C::wait_list_in(m, B, T0), Some(WaitList::Receivers)));
-    assert_eq!(rt; C::owner_in(m, B), Some(None));
+    assert_eq!(rt; waits::<_, C>(m, T0), Some(true));
+    assert_eq!(rt; owner::<_, C>(m), Some(None));
     assert_eq!(rt; section(&mut one, m, Does::Acquires), Seen::Acquired);
     assert_eq!(rt; section(&mut one, m, Does::Signals), Seen::GoesOn);
     assert_eq!(rt; one.part.hand(), Some(T0));
-    assert!(rt; C::wait_list_in(m, B, T0).is_none());
+    assert_eq!(rt; waits::<_, C>(m, T0), Some(false));
     assert_eq!(rt;
         section(&mut one, m, Does::Signals),
         Seen::Signalled(Some(T0))
@@ -291,11 +311,9 @@ fn is_told<L: Locking, Q: OwnedThreadLayer<L> + Drop>(
     assert!(rt; !local.is_ready(T0) && !local.has_ended(T0));
     assert_eq!(rt; section(&mut zero, m, Does::Acquires), Seen::Acquired);
     assert_eq!(rt; section(&mut zero, m, Does::Reads), Seen::Read(T0));
-    assert_eq!(rt; Q::block_in(m, B), Some(&T0));
+    assert_eq!(rt; above::<_, Q>(m), Some(T0));
     assert_eq!(rt; Q::pends_in(m, CpuId(1), T0), Some(false));
-    assert_eq!(rt; zero.part.block_here(B), None);
-    assert_eq!(rt; zero.part.owner_here(B), None);
-    assert!(rt; zero.part.wait_list_here(B, T0).is_none());
+    assert!(rt; zero.part.block_here(B).is_none());
     assert_eq!(rt; zero.part.pends_here(CpuId(1), T0), None);
     assert!(rt; !zero.part.at_once());
     assert_eq!(rt; polled(&mut zero, m, Does::Leaves), Seen::GoesOn);
@@ -351,11 +369,9 @@ fn a_lock_of_plain_data_is_handed_on(rt: HostRuntime) -> Result<(), Fail> {
     let mut zero: Seat<Q> = seat(&rt, &mut m, 0, 1);
     assert_eq!(&rt; section(&mut zero, &mut m, Does::Acquires), Seen::Acquired);
     assert_eq!(&rt; section(&mut zero, &mut m, Does::Reads), Seen::Read(T0));
-    assert_eq!(&rt; Q::block_in(&m, B), Some(&T0));
+    assert_eq!(&rt; above::<_, Q>(&m), Some(T0));
     assert_eq!(&rt; Q::pends_in(&m, CpuId(1), T0), Some(false));
-    assert_eq!(&rt; zero.part.block_here(B), None);
-    assert_eq!(&rt; zero.part.owner_here(B), None);
-    assert!(&rt; zero.part.wait_list_here(B, T0).is_none());
+    assert!(&rt; zero.part.block_here(B).is_none());
     assert_eq!(&rt; zero.part.pends_here(CpuId(1), T0), None);
     assert!(&rt; !zero.part.is_busy() && !zero.part.look(&mut m));
     Ok(())

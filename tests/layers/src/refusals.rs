@@ -7,15 +7,20 @@ use cpu::System;
 use cpu_workers::counting::{CountFault, count_or_leave, count_table};
 use cpu_workers::{Caller, Gate, Go, Hints, Native, Report, run_native, run_workers};
 use event_log::{BufId, CpuId, LockId, Msg, NoMemory};
-use layer_traits::{CallLayer, IpcLaw};
+use ipc_calls::{Ipc, MonitorOver, MonitorTowerEdit};
+use layer_traits::{CallLayer, IpcLaw, Owned};
 use plain_layers::PlainIpc;
 use plain_machine::{LockWords, Plain};
+use spinlock::Ticket;
 use std::alloc::Global;
 use std::process::Abort;
 use std::sync::Wait;
 use std::sync::atomic::{AtomicU64, Ordering};
 use std::thread::Threads;
 use table_machine::{Shared, TableWords, TicketWords, WaiterWords};
+
+/// Message calls over monitors on ticket locks.
+type Monitors = Ipc<MonitorOver<Ticket<Plain<MonitorTowerEdit>>>>;
 
 /// A receiver on CPU 0, and on CPU 1 a thread that sends 7.
 const FROM_AFAR: &str = r#"cpus = 2
@@ -85,21 +90,32 @@ fn a_refused_allocation_of_shared_words_is_no_memory(rt: HostRuntime) {
     }
 }
 
-/// Opens a system over one-step message calls, and takes a step of each CPU.
-fn calls_open(rt: &impl Abort, alloc: Global) -> Result<(), NoMemory> {
+/// Opens a system over these message calls, and takes a step of each CPU.
+fn calls_open<I: Owned + Drop>(rt: &impl Abort, alloc: Global) -> Result<(), NoMemory>
+where
+    I::Machine: Drop,
+{
     let boot = match Boot::read(alloc, FROM_AFAR) {
         Ok(boot) => boot,
         Err(BootError::NoMemory(refused)) => return Err(refused),
         Err(_) => panic!(rt; "the plan is refused"),
     };
-    let mut system: System<PlainIpc> = System::open(alloc, &boot, 2)?;
+    let mut system: System<I> = System::open(alloc, &boot, 2)?;
     assert!(rt; system.run(&[CpuId(0), CpuId(1)]).is_ok());
     Ok(())
 }
 
 #[test]
 fn a_refused_allocation_of_a_system_is_no_memory(rt: HostRuntime) {
-    match calls_open(&rt, rt.alloc()) {
+    match calls_open::<PlainIpc>(&rt, rt.alloc()) {
+        Ok(()) => {}
+        Err(NoMemory { .. }) => {}
+    }
+}
+
+#[test]
+fn a_refused_allocation_of_monitors_is_no_memory(rt: HostRuntime) {
+    match calls_open::<Monitors>(&rt, rt.alloc()) {
         Ok(()) => {}
         Err(NoMemory { .. }) => {}
     }

@@ -3,8 +3,8 @@
 use crate::openings::{Opens, TICKET_POLLS, TicketSched};
 use event_log::{BufId, CpuId, NoMemory, Tid};
 use layer_traits::{
-    BufferCall, OwnedThreadLayer, MessageSlot, Pass, Payload, SleepLaw, Sleeps, ThreadLayer, WaitList,
-    Wake,
+    BufferCall, MessageSlot, OwnedThreadLayer, Pass, Payload, SleepLaw, Sleeps, ThreadLayer,
+    WaitList, Wake,
 };
 use plain_layers::PlainSched;
 use sleep_wakeup::{SleepEdit, Sleeper, sleep_blocks};
@@ -42,7 +42,12 @@ impl Sleeps for Nap {
         *nap
     }
 
-    fn apply_request(nap: &Nap, _first: Option<Tid>, _block: &mut u8, _message_slot: &mut MessageSlot) -> Nap {
+    fn apply_request(
+        nap: &Nap,
+        _first: Option<Tid>,
+        _block: &mut u8,
+        _message_slot: &mut MessageSlot,
+    ) -> Nap {
         *nap
     }
 
@@ -223,6 +228,12 @@ where
     Ok(())
 }
 
+/// Whether thread 0 waits to receive, and what the lock guards, as the machine tells it.
+fn abstract_answer<S: Opens<SleepEdit<Nap>>>(m: &S::Machine) -> Option<(bool, u8)> {
+    let block = Sleeper::<Nap, S>::block_in(m, B)?;
+    Some((block.receivers.contains(T0), *block.above))
+}
+
 /// Thread 0 sleeps: the machine tells in which line, and the part has no block and no queue in its hands.
 fn a_machine_tells_who_sleeps<S: Opens<SleepEdit<Nap>> + Drop>(
     rt: &(impl Abort + AllocGlobal),
@@ -235,11 +246,8 @@ where
     assert!(rt; passes(&mut home, &mut m, Pass::Switch));
     assert_eq!(rt; home.part.current(), Some(T0));
     assert_eq!(rt; section(&mut home, &mut m, SLEEP), Seen::Did(true, None));
-    let waits_in = Sleeper::<Nap, S>::wait_list_in(&m, B, T0);
-    assert!(rt; matches!(waits_in, Some(WaitList::Receivers)));
-    assert!(rt; home.part.wait_list_here(B, T0).is_none());
-    assert_eq!(rt; Sleeper::<Nap, S>::block_in(&m, B), Some(&7));
-    assert_eq!(rt; home.part.block_here(B), None);
+    assert_eq!(rt; abstract_answer::<S>(&m), Some((true, 7)));
+    assert!(rt; home.part.block_here(B).is_none());
     assert_eq!(rt; Sleeper::<Nap, S>::pends_in(&m, CPU_1, T0), Some(false));
     assert_eq!(rt; home.part.pends_here(CPU_1, T0), None);
     Ok(())
