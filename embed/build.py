@@ -3,6 +3,7 @@
 
     embed/build.py                      proves embed/crate over the libraries that are proved, and links; does nothing if nothing has changed
     embed/build.py --jobs N             with N processors (default: 1)
+    embed/build.py --beside-ci          the same, while an `rt ci` that has proved these libraries is still at work; the gate's
     embed/build.py --install PREFIX     copies the library, the header, the pkg-config file and the man page to PREFIX/lib, include, and share/man
     embed/build.py --trial              embed/out/trial: the host over trial.c, in place of the proved program; needs no toolchain
 
@@ -26,6 +27,7 @@ from pathlib import Path
 sys.dont_write_bytecode = True
 ROOT = Path(__file__).resolve().parent.parent
 EMBED = ROOT / "embed"
+NOTHING = 77  # the status of a script of the gate that has nothing to do here
 CRATE, HOST, OUT = EMBED / "crate", EMBED / "host", EMBED / "out"
 NAME, USES, OF_KIT = "embed", ("event_log", "layer_traits", "cpu", "cpu_workers"), "arrayvec"
 FOREIGN = {"tower_host_plan", "tower_host_next", "tower_host_left", "tower_host_end"}
@@ -131,8 +133,9 @@ def object_built(lib, crate, made, jobs):
     return lines[-1]
 
 
-def proved_object(jobs):
-    """Returns the object of the proved program, which is made anew only if something that it is made from has changed."""
+def proved_object(jobs, beside_ci=False):
+    """Returns the object of the proved program, which is made anew only if something that it is made from has changed. `rt ci` holds the libraries until its
+    end, and writes none that it has proved."""
     import kit  # pylint: disable=import-outside-toplevel,import-error
     lib = kit.load()
     OUT.mkdir(exist_ok=True)
@@ -147,7 +150,7 @@ def proved_object(jobs):
         began = time.monotonic()
         print("embed: proves embed/crate", flush=True)
         kept.unlink(missing_ok=True)
-        held = lib.lock(crate.below())
+        held = [] if beside_ci else lib.lock(crate.below())
         last = object_built(lib, crate, made, jobs)
         for it in held:
             os.close(it)
@@ -196,9 +199,9 @@ def kit_archives():
     return [f"{os.path.dirname(page)}/c/{name}" for name in ("libos_c.a", "liblibc_c.a")]
 
 
-def built(jobs=1):
+def built(jobs=1, beside_ci=False):
     """Makes embed/out, if it is not there as it has to be."""
-    program = proved_object(jobs)
+    program = proved_object(jobs, beside_ci)
     inputs = [program, EMBED / "build.py", EMBED / "tower.h", *HOST.iterdir()]
     made = OUT / "libtower.so"
     if not made.exists() or max(it.stat().st_mtime for it in inputs) > made.stat().st_mtime:
@@ -223,22 +226,25 @@ def main():
     read = argparse.ArgumentParser(description=__doc__, formatter_class=argparse.RawDescriptionHelpFormatter)
     read.add_argument("--jobs", type=int, default=1, metavar="N")
     read.add_argument("--install", type=Path, metavar="PREFIX")
+    read.add_argument("--beside-ci", action="store_true")
     read.add_argument("--trial", action="store_true")
     asked = read.parse_args()
     if (platform.system(), platform.machine()) != ("Linux", "x86_64"):
         sys.exit("embed: the host is for x86-64 Linux")
     if lost := missing(not asked.trial):
-        sys.exit(f"embed: there is no {' and no '.join(lost)} here")
+        print(f"embed: there is no {' and no '.join(lost)} here", file=sys.stdout if asked.beside_ci else sys.stderr)
+        return NOTHING if asked.beside_ci else 1
     if asked.trial:
         with tempfile.TemporaryDirectory() as room:
-            return linked(trial_object(room), OUT / "trial")
-    built(asked.jobs)
+            linked(trial_object(room), OUT / "trial")
+        return 0
+    built(asked.jobs, asked.beside_ci)
     print(f"embed: {OUT.relative_to(ROOT)}/libtower.a: {(OUT / 'libtower.a').stat().st_size} bytes")
     if asked.install:
         install(asked.install.resolve())
-    return None
+    return 0
 
 
 sys.path.append(str(ROOT / "tools"))
 if __name__ == "__main__":
-    main()
+    sys.exit(main())

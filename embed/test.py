@@ -28,7 +28,6 @@ import build  # noqa: E402
 
 EMBED, ROOT = build.EMBED, build.ROOT
 SCENES = EMBED / "scenes"
-NOTHING = 77
 STRICT = "-std=c11 -D_GNU_SOURCE -g -Wall -Wextra -Werror".split()
 MOST_TOLD = 2000
 # Programs in C with the words that they are given, and how many seconds they have.
@@ -304,7 +303,7 @@ def main():
     asked = read.parse_args()
     if lost := build.missing(not asked.library):
         print(f"embed: nothing was tried, since there is no {' and no '.join(lost)} here")
-        return NOTHING
+        return build.NOTHING
     library = asked.library.resolve() if asked.library else build.built(asked.jobs)
     with tempfile.TemporaryDirectory() as room:
         tried = Tried(library, Path(room))

@@ -71,7 +71,7 @@ def main():
     asked = read.parse_args()
     if lost := build.missing():
         print(f"embed: no fault was planted, since there is no {' and no '.join(lost)} here")
-        return test.NOTHING
+        return build.NOTHING
     names = sorted(path.stem for path in WRONG.glob("*.edit")) if asked.all else asked.names or OF_GATE
     build.built()
     missed = 0

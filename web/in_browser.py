@@ -300,7 +300,7 @@ class Checks:
         first = "Threads on CPUs pass numbers through buffers Press → or next"
         self.holds("a sentence says what this is and what to press", self.text("#said").startswith(first), True)
         self.holds("the names of the sections are explained", [name for name in SECTIONS if name not in self.text("#foot")], [])
-        self.holds("lessons have a list of their own", self.browser.read("document.querySelectorAll('#lessonList option').length"), 15)
+        self.holds("lessons have a list of their own", self.browser.read("document.querySelectorAll('#lessonList option').length"), 16)
         titles = "[...document.querySelectorAll('.laws:not(.own) li, .slots .t, .path span')].filter(one => !one.title).map(one => one.textContent)"
         self.browser.read("page.go(20)")
         self.holds("laws, sections and places say what they are where one points at them", self.browser.read(titles), [])
