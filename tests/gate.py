@@ -179,7 +179,7 @@ def a_lane_is_free(rows, room, early, beside, alone):
 
 def bodies_are_drawn(rows, room, early, beside, alone):
     """Mutants are tried once: beside the last proof, or after all else where memory is short."""
-    for memory, when in ((MEMORY, "--jobs 1 early"), (MEMORY.replace("16", "10"), "late")):
+    for memory, when in ((MEMORY, "early"), (MEMORY.replace("16", "10"), "late")):
         (room / "meminfo").write_text(memory)
         status, lines, events = outcome(room, {"bin/rt": until(f"- {early[-1]}")})
         calls = (room / "bodies").read_text().splitlines()

@@ -189,10 +189,10 @@ class Gate:
     def step_of(self, name, crates=0):
         return Step(crates, SCRIPT_MEMORY, lambda lanes: self.script(name))
 
-    def bodies(self, lanes):
-        """Tries the mutants that have no line in the ledger, and draws others for some minutes of processor time, in at most so many checks side by side."""
-        few = ("--jobs", "1") if lanes == 1 else ()
-        self.counted(BODIES, "tools/gate-minutes.py", BODIES, "--after-ci", "--minutes", DRAWN_MINUTES, *few)
+    def bodies(self, _lanes):
+        """Tries the mutants that have no line in the ledger, and draws others for some minutes of processor time. A change of a low crate leaves hundreds without
+        a line, so it takes as many lanes as the memory holds, beside `rt ci` too."""
+        self.counted(BODIES, "tools/gate-minutes.py", BODIES, "--after-ci", "--minutes", DRAWN_MINUTES)
 
     def sum_up(self):
         """Prints what each step took, which looked at nothing, which failed, and the sum; returns whether the gate is passed."""
