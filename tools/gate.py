@@ -190,8 +190,8 @@ class Gate:
         return Step(crates, SCRIPT_MEMORY, lambda lanes: self.script(name))
 
     def bodies(self, _lanes):
-        """Tries the mutants that have no line in the ledger, and draws others for some minutes of processor time. A change of a low crate leaves hundreds without
-        a line, so it takes as many lanes as the memory holds, beside `rt ci` too."""
+        """Tries the mutants that have no line in the ledger, and draws others for some minutes of processor time. A change of a low crate leaves hundreds
+        without a line, so it takes as many lanes as the memory holds, beside `rt ci` too."""
         self.counted(BODIES, "tools/gate-minutes.py", BODIES, "--after-ci", "--minutes", DRAWN_MINUTES)
 
     def sum_up(self):
