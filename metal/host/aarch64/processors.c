@@ -39,7 +39,7 @@ static enum reason took_interrupt(void) {
 
 /* What start.S calls in each trap, with the registers that it kept. An interrupt says nothing in the register of exceptions, which is 0 but for them. */
 _Noreturn void trapped(struct frame *it) {
-  const char *const names[] = {[0] = "an instruction that is none", [0x3C] = "an instruction that is none", [0x21] = "a page fault", [0x25] = "a page fault"};
+  static const char *names[] = {[0] = "an instruction that is none", [0x3C] = "an instruction that is none", [0x21] = "a page fault", [0x25] = "a page fault"};
   enum { CALL = 0x15, NAMES = sizeof names / sizeof *names };
   size what = __builtin_arm_rsr64("esr_el1"), number = what >> 26 & 63;
   __builtin_arm_wsr64("esr_el1", 0);
